@@ -1,6 +1,6 @@
 -- Pairs in any order and in rising order: what `add`, `above` and `in-order` keep. Assumes nothing.
 use mathlib.Core.Path.{_≡_, refl, sym, ap, subst, _∙_}
-use mathlib.Core.Bool.{Bool, true, false, cond}
+use mathlib.Core.Bool.{Bool, true, false, cond, not}
 use mathlib.Core.List.{List, [], _∷_, _++_}
 use mathlib.Core.Logic.{inl, inr, _≢_}
 use Prim.Native.Nat.{ℕ, _+_, _≤_, _<_, suc}
@@ -8,7 +8,7 @@ use native.Mathlib.Omega.{arith}
 use lib.Dec.{ltb, eqb}
 use lib.ListN.{length}
 use Rattle.std.proofs.shelf.Lists.{append-nil}
-use Rattle.std.proofs.shelf.Tests.{both-ways, cases-eq, ltb-true, ltb-false}
+use Rattle.std.proofs.shelf.Tests.{both-ways, cases-eq, ltb-true, ltb-false, eq-eqb, ne-eqb, cond-true, cond-false, and-parts, not-true}
 use Rattle.std.proofs.shelf.Ways.{tells}
 use Rattle.store.specs.Pairs.{Pair, Meaning, holds, payload-of, add, above, in-order, good, distinct, Over, Rising, Sound}
 
@@ -86,6 +86,19 @@ pub distinct-push : (p : Pair) (ps : List Pair) → good p ≡ true → holds (p
 distinct-push p ps g h a =
     let e = append-nil ps in
     distinct-mid p ps [] g (ap (holds (p .number)) e ∙ h) (ap distinct e ∙ a)
+
+-- no pair before one has its number
+holds-mid : (p : Pair) (ps qs : List Pair) → holds (p .number) (ps ++ (p ∷ qs)) ≡ true
+holds-mid p [] qs = cond-true (eqb (p .number) (p .number)) true _ (eq-eqb (p .number) (p .number) refl)
+holds-mid p (r ∷ ps) qs = let ih = holds-mid p ps qs in grind (arith, tells)
+
+pub distinct-front : (p : Pair) (ps qs : List Pair) → distinct (ps ++ (p ∷ qs)) ≡ true → holds (p .number) ps ≡ false
+distinct-front p [] qs d = refl
+distinct-front p (r ∷ ps) qs d =
+    let parts = and-parts (not (holds (r .number) (ps ++ (p ∷ qs)))) (distinct (ps ++ (p ∷ qs))) (and-parts (good r) _ d .1) in
+    let free = not-true (holds (r .number) (ps ++ (p ∷ qs))) (parts .0) in
+    let other : p .number ≡ r .number → ⊥ = λ e. both-ways (holds (r .number) (ps ++ (p ∷ qs))) free (ap (λ n. holds n (ps ++ (p ∷ qs))) (sym e) ∙ holds-mid p ps qs) in
+    cond-false (eqb (p .number) (r .number)) true _ (ne-eqb (p .number) (r .number) other) ∙ distinct-front p ps qs (parts .1)
 
 pub free-above : (n k : ℕ) (ps : List Pair) → holds n ps ≡ false → holds n (above k ps) ≡ false
 free-above n k [] h = refl

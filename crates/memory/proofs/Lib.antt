@@ -1,0 +1,5 @@
+pub mod Records
+pub mod JournalWalks
+pub mod JournalStates
+pub mod SlotWalks
+pub mod SlotStates
