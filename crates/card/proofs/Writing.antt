@@ -22,6 +22,7 @@ use Rattle.card.specs.Cards.{card-capacity, card-pairs, card-meaning}
 
 -- the card's memory v once `new`, with p at its front, is in it
 pub record Written {Z : Type 0} (v : Vec ℕ Z) (n : ℕ) (p new : List ℕ) : Type 0 where
+  pub long : length (refilled v new .items) ≡ length (vec-items v)
   pub within : length p ≤ length (refilled v new .items)
   pub distinct : distinct (card-pairs n (length p) (refilled v new .items)) ≡ true
   pub room : leb (length (card-pairs n (length p) (refilled v new .items))) (card-capacity (refilled v new .items)) ≡ true
@@ -43,6 +44,7 @@ written v n p old new r g room old-is answer is =
     let one : card-capacity (vec-items v) ≡ 1 = cond-true (leb 512 (length (vec-items v))) 1 0 (le-leb 512 (length (vec-items v)) room) in
     let single : distinct (pair n p ∷ []) ≡ true = grind (arith, tells) in
     record {
+      long = long-now;
       within = omega arith;
       distinct = ap distinct pairs ∙ single;
       room = ap (λ ps. leb (length ps) (card-capacity (refilled v new .items))) pairs ∙ ap (leb 1) (capacity ∙ one);

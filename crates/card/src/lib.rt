@@ -28,7 +28,7 @@ pub struct Card {
 impl Card {
     // An empty card over memory of any length.
     pub fn new(memory: Vec<u8>) -> Card
-        ensures { λ r. ⌜ card-meaning (r .number) (r .len) (vec-items (r .memory)) ≡ card-meaning 0 0 (vec-items memory) ⌝ }
+        ensures { λ r. ⌜ card-meaning (r .number) (r .len) (vec-items (r .memory)) ≡ record { capacity = card-capacity (vec-items memory); pairs = [] } ⌝ }
     {
         Card {
             memory,
@@ -41,7 +41,8 @@ impl Card {
     fn write(&mut self, number: u32, payload: &[u8])
         requires good { ⌜ good (pair number (now payload)) ≡ true ⌝ }
         requires room { ⌜ 512 ≤ length (vec-items (now self .memory)) ⌝ }
-        ensures { λ _. ⌜ card-meaning (now (self .exit) .number) (now (self .exit) .len) (vec-items (now (self .exit) .memory)) ≡ record { capacity = card-capacity (vec-items (now (self .entry) .memory)); pairs = pair number (now (payload .entry)) ∷ [] } ⌝ }
+        ensures after { λ _. ⌜ card-meaning (now (self .exit) .number) (now (self .exit) .len) (vec-items (now (self .exit) .memory)) ≡ record { capacity = card-capacity (vec-items (now (self .entry) .memory)); pairs = pair number (now (payload .entry)) ∷ [] } ⌝ }
+        ensures size { λ _. ⌜ length (vec-items (now (self .exit) .memory)) ≡ length (vec-items (now (self .entry) .memory)) ⌝ }
     {
         let _ = copy_payload(payload, &mut self.memory);
         self.number = number;

@@ -20,9 +20,6 @@ pub record Seeking (bs : List ℕ) (count n at left : ℕ) : Type 0 where
   pub held : holds n (records count bs) ≡ holds n (records left (drop at bs))
   pub payload : payload-of n (records count bs) ≡ payload-of n (records left (drop at bs))
 
-pub seeking-none : (bs : List ℕ) (count n : ℕ) → span count bs ≤ length bs → Seeking bs count n 0 count
-seeking-none bs count n l = record { fits = omega arith; held = refl; payload = refl }
-
 module _ {bs : List ℕ} {count n at left : ℕ} (s : Seeking bs count n at left) where
   pub seeking-head : 0 < left → at + size-of (drop at bs) ≤ length bs
   seeking-head l = omega (arith, run-step left (drop at bs) l .1, s .fits)
@@ -64,9 +61,6 @@ pub record Packing (was bs : List ℕ) (count n kept to from left : ℕ) : Type 
   pub long : length bs ≡ length was
   pub fewer : kept + left ≤ count
   pub still : kept + left ≡ count → (to ≡ from) × (bs ≡ was)
-
-pub packing-none : (bs : List ℕ) (count n : ℕ) → span count bs ≤ length bs → Packing bs bs count n 0 0 0 count
-packing-none bs count n l = record { keeps = refl; end = refl; behind = omega arith; fits = omega arith; long = refl; fewer = omega arith; still = λ e. (refl, refl) }
 
 module _ {was bs : List ℕ} {count n kept to from left : ℕ} (s : Packing was bs count n kept to from left) where
   pub packing-head : 0 < left → from + size-of (drop from bs) ≤ length bs

@@ -195,9 +195,6 @@ pub record Freeing (was bs : List ℕ) (count n i kept : ℕ) (homed : Bool) : T
   pub homes : homed ≡ true → Homed count i bs
   pub still : kept ≡ length (slots i was) → bs ≡ was
 
-pub freeing-none : (bs : List ℕ) (count n : ℕ) → Short count bs → Freeing bs bs count n 0 0 true
-freeing-none bs count n short = record { front = refl; rest = refl; long = refl; short = short; counted = refl; homes = λ e k l. absurd (omega arith); still = λ e. refl }
-
 above-one-keep : (n : ℕ) (xs : List ℕ) → n < number-of xs → above n (one xs) ≡ one xs
 unfolding one
 above-one-keep n xs l =

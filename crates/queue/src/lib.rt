@@ -72,6 +72,7 @@ impl<S: Store> Queue<S> {
     pub fn into_store(self) -> S
         ensures { λ r. ⌜ r ≡ self .store ⌝ }
     {
-        self.store
+        let Queue { store, .. } = self;
+        store
     }
 }

@@ -133,7 +133,7 @@ over-add n p (q ∷ qs) l o =
     let rest = over-add n p qs l (o .1) in
     elim (ltb (p .number) (q .number)) as (λ b. Over n (cond b (p ∷ (q ∷ qs)) (q ∷ add p qs))) [ true ↦ (l, o) | false ↦ (o .0, rest) ]
 
-over-less : (m n : ℕ) (ps : List Pair) → m < n → Over n ps → Over m ps
+pub over-less : (m n : ℕ) (ps : List Pair) → m < n → Over n ps → Over m ps
 over-less m n [] l o = tt
 over-less m n (p ∷ ps) l o = (omega (arith, o .0), over-less m n ps l (o .1))
 

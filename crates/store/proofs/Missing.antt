@@ -9,15 +9,12 @@ use lib.Dec.{ltb, eqb}
 use Rattle.std.proofs.shelf.Tests.{both-ways, cases-eq, cases-lt}
 use Rattle.std.proofs.shelf.Ways.{tells}
 use Rattle.store.specs.Pairs.{Pair, holds, Over, Rising, lowest-missing, Lowest}
+use Rattle.store.proofs.Keeping.{over-less}
 
 -- a number below all of a list is not in it
 over-free : (n : ℕ) (ps : List Pair) → Over n ps → holds n ps ≡ false
 over-free n [] o = refl
 over-free n (p ∷ ps) o = let l = o .0 in let ih = over-free n ps (o .1) in grind (arith, tells)
-
-over-less : (m n : ℕ) (ps : List Pair) → m < n → Over n ps → Over m ps
-over-less m n [] l o = tt
-over-less m n (p ∷ ps) l o = (omega (arith, o .0), over-less m n ps l (o .1))
 
 pub lowest-is : (k : ℕ) (ps : List Pair) → Rising ps → Lowest k ps (lowest-missing k ps)
 lowest-is k [] r = record { from = omega arith; missing = refl; below = λ n a b. absurd (omega arith) }

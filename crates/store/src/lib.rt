@@ -18,7 +18,7 @@ pub mod lowest;
 pub trait Store {
     ghost meaning: { Self → Meaning };
 
-    // the bytes that the store is kept in
+    // the bytes that the store is kept in; there are always as many
     ghost medium: { Self → List ℕ };
 
     law sound: { (s : Self) → Sound (meaning s) };
@@ -27,29 +27,34 @@ pub trait Store {
     fn put(&mut self, number: u32, payload: &[u8]) -> Result<(), Refusal>
         ensures answer { λ r. ⌜ r ≡ put-answer (meaning (now (self .entry))) number (now (payload .entry)) ⌝ }
         ensures after { λ r. ⌜ meaning (now (self .exit)) ≡ put-after (isOk r) (meaning (now (self .entry))) number (now (payload .entry)) ⌝ }
-        ensures still { λ r. ⌜ (isOk r ≡ false → medium (now (self .exit)) ≡ medium (now (self .entry))) ⌝ };
+        ensures still { λ r. ⌜ (isOk r ≡ false → medium (now (self .exit)) ≡ medium (now (self .entry))) ⌝ }
+        ensures size { λ _. ⌜ length (medium (now (self .exit))) ≡ length (medium (now (self .entry))) ⌝ };
 
     // Writes the payload of a number to the front of `buffer`, and answers its length.
     fn copy(&mut self, number: u32, buffer: &mut [u8]) -> Result<usize, Refusal>
         ensures answer { λ r. ⌜ r ≡ copy-answer (meaning (now (self .entry))) number (length (now (buffer .entry))) ⌝ }
         ensures buffer { λ r. ⌜ now (buffer .exit) ≡ copy-buffer (isOk r) (meaning (now (self .entry))) number (now (buffer .entry)) ⌝ }
-        ensures same { λ _. ⌜ meaning (now (self .exit)) ≡ meaning (now (self .entry)) ⌝ };
+        ensures same { λ _. ⌜ meaning (now (self .exit)) ≡ meaning (now (self .entry)) ⌝ }
+        ensures size { λ _. ⌜ length (medium (now (self .exit))) ≡ length (medium (now (self .entry))) ⌝ };
 
     // Tells whether a number is held.
     fn has(&mut self, number: u32) -> bool
         ensures answer { λ r. ⌜ r ≡ holds number (meaning (now (self .entry)) .pairs) ⌝ }
-        ensures same { λ _. ⌜ meaning (now (self .exit)) ≡ meaning (now (self .entry)) ⌝ };
+        ensures same { λ _. ⌜ meaning (now (self .exit)) ≡ meaning (now (self .entry)) ⌝ }
+        ensures size { λ _. ⌜ length (medium (now (self .exit))) ≡ length (medium (now (self .entry))) ⌝ };
 
     // Removes every number up to the given one. Where there is none, it changes no byte.
     fn forget(&mut self, number: u32)
         ensures after { λ _. ⌜ meaning (now (self .exit)) ≡ forget-after (meaning (now (self .entry))) number ⌝ }
-        ensures still { λ _. ⌜ (meaning (now (self .exit)) ≡ meaning (now (self .entry)) → medium (now (self .exit)) ≡ medium (now (self .entry))) ⌝ };
+        ensures still { λ _. ⌜ (meaning (now (self .exit)) ≡ meaning (now (self .entry)) → medium (now (self .exit)) ≡ medium (now (self .entry))) ⌝ }
+        ensures size { λ _. ⌜ length (medium (now (self .exit))) ≡ length (medium (now (self .entry))) ⌝ };
 }
 
 // A store that is made over memory given to it: it starts empty, with room for one pair in each 518 bytes.
 pub trait MadeOver: Store + Sized {
     fn new(memory: Vec<u8>) -> Self
-        ensures { λ r. ⌜ Self·Store .meaning r ≡ record { capacity = vec-len memory / 518; pairs = [] } ⌝ };
+        ensures empty { λ r. ⌜ Self·Store .meaning r ≡ record { capacity = vec-len memory / 518; pairs = [] } ⌝ }
+        ensures size { λ r. ⌜ length (Self·Store .medium r) ≡ vec-len memory ⌝ };
 
     // Gives the memory back, as it is.
     fn into_memory(self) -> Vec<u8>

@@ -1,4 +1,4 @@
--- Flags in a word: which positions `trim` sets, clears and keeps. Assumes nothing.
+-- Flags in a word: which positions `trimmed` sets, clears and keeps. Assumes nothing.
 use mathlib.Core.Path.{_≡_, refl, sym, ap, _∙_}
 use mathlib.Core.Bool.{Bool, true, cond, _&&_}
 use mathlib.Core.Logic.{_⊎_, inl, inr}
@@ -75,7 +75,7 @@ unfolding flag-at
 flag-ext x y hx hy same =
     same-bits 32 x y hx hy (λ k h. let e : 31 - (31 - k) ≡ k = omega arith in simp e at (same (31 - k) (omega arith)))
 
--- `trim` sets the positions below a, clears those from s on, and keeps the others
+-- `trimmed` sets the positions below a, clears those from s on, and keeps the others
 module _ (a s w j : ℕ) (ha : a ≤ 32) (hs : s ≤ 32) (hj : j < 32) where
   at-trimmed : flag-at (trimmed a s w) j ≡ min (max (flag-at w j) (cond (ltb j a) 1 0)) (cond (ltb j s) 1 0)
   unfolding trimmed

@@ -10,4 +10,5 @@ ghost-self c =
 pub returns : need.returns
 returns c =
     let e = c .copy-payload .ensures in
-    written (c .args .self .now .memory) (c .args .number) (c .args .payload .now) _ _ _ (c .pre .good) (c .pre .room) (c .deref-mut .ensures .value) (e .answer) (e .buffer) .after
+    let w = written (c .args .self .now .memory) (c .args .number) (c .args .payload .now) _ _ _ (c .pre .good) (c .pre .room) (c .deref-mut .ensures .value) (e .answer) (e .buffer) in
+    record { after = w .after; size = w .long }

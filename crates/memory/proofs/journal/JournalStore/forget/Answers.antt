@@ -1,5 +1,3 @@
-use Rattle.std.proofs.shelf.Lists.{refilled-is}
-use borrow.Author.Needs.{needs}
 use mathlib.Core.Path.{_≡_, ap, _∙_}
 use mathlib.Core.Bool.{false}
 use Prim.Native.Nat.{ℕ, _/_, _<_}
@@ -34,4 +32,5 @@ returns c =
     record {
       after = cc;
       still = λ same. h .items ∙ (e .still (all-stay s k _ (ap (λ m. length (m .pairs)) same)) ∙ c .deref-mut .ensures .value);
+      size = h .long;
     }

@@ -12,6 +12,7 @@ pub returns : need.returns
 returns c =
     let e = c .free-all .ensures in
     let t = emptied (c .args .memory) _ (c .free-all .last .bytes) (c .deref-mut .ensures .value) (c .free-all .kept .bytes) (e .short) (e .empty) in
-    let room = ap (λ k. k / 518) (t .len ∙ sym (c .args .memory .ok .0)) in
+    let size = t .len ∙ sym (c .args .memory .ok .0) in
+    let room = ap (λ k. k / 518) size in
     let pairs = t .after in
-    cc
+    record { empty = cc; size = size }

@@ -22,4 +22,5 @@ returns c =
     record {
       after = cc;
       still = λ same. t .items ∙ (e .still (all-kept s _ (refilled (s .memory) (c .free-through-used .last .bytes) .items) (t .keeps .1 .1 .0) (ap (λ m. length (m .pairs)) same) ∙ ap (λ bs. length (slot-pairs bs)) (sym value)) ∙ value);
+      size = t .len;
     }
