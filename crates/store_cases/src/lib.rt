@@ -5,6 +5,8 @@ mod tests {
     use answer::Refusal;
     use answer::RefusalDebug;
     use answer::RefusalPartialEq;
+    use card::Card;
+    use card::CardStore;
     use memory::journal::Journal;
     use memory::journal::JournalMadeOver;
     use memory::journal::JournalStore;
@@ -71,7 +73,19 @@ mod tests {
         Step::Put(1, 1, OK),
     ];
 
-    // Each refusal of put, alone and with every later one; the earlier wins.
+    // Each refusal alone, with room for more.
+    const ALONE: [Step; 8] = [
+        Step::Put(0, 1, BAD_NUMBER),
+        Step::Put(u32::MAX, 512, BAD_NUMBER),
+        Step::Put(1, 0, BAD_LENGTH),
+        Step::Put(1, 513, BAD_LENGTH),
+        Step::Put(1, 1, OK),
+        Step::Put(1, 1, HELD),
+        Step::Copy(u32::MAX, 512, NOT_HELD),
+        Step::Copy(1, 0, SHORT),
+    ];
+
+    // Two faults at once: the earlier wins.
     const ORDER: [Step; 11] = [
         Step::Put(7, 3, OK),
         Step::Put(8, 4, OK),
@@ -166,11 +180,16 @@ mod tests {
         }
     }
 
+    fn take_steps<S: Store>(store: &mut S, steps: &[Step]) -> Result<(), Fail> {
+        for step in steps {
+            take_step(store, *step)?;
+        }
+        Ok(())
+    }
+
     fn play<S: MadeOver + Drop>(heap: Global, bytes: usize, steps: &[Step]) -> Result<(), Fail> {
         let mut store = S::new(vec![in heap; 170u8; bytes]?);
-        for step in steps {
-            take_step(&mut store, *step)?;
-        }
+        take_steps(&mut store, steps)?;
         check_eq(store.into_memory().len(), bytes)
     }
 
@@ -192,7 +211,16 @@ mod tests {
     }
 
     #[test]
+    fn a_card_for_one(rt: LibcRuntime) -> Result<(), Fail> {
+        let mut card = Card::new(vec![in rt.alloc(); 170u8; 512]?);
+        take_steps(&mut card, &ONE)?;
+        let mut too_small = Card::new(vec![in rt.alloc(); 170u8; 511]?);
+        take_steps(&mut too_small, &NO_ROOM)
+    }
+
+    #[test]
     fn the_earlier_refusal_wins(rt: LibcRuntime) -> Result<(), Fail> {
+        play_both(&rt, 1036, &ALONE)?;
         play_both(&rt, 1036, &ORDER)
     }
 

@@ -7,3 +7,5 @@ mod flags;
 mod refusals;
 #[cfg(test)]
 mod vectors;
+#[cfg(test)]
+mod writes;

@@ -29,7 +29,7 @@ fn answer(kind: u8, len: usize, changes: [(usize, u8); 4]) -> u8 {
 }
 
 // Type, length, answer: a length that fits no body, and those beside the one that fits.
-const LENGTHS: [(u8, usize, u8); 30] = [
+const LENGTHS: [(u8, usize, u8); 37] = [
     (4, 0, 7),
     (4, 15, 7),
     (4, 16, 10),
@@ -50,15 +50,22 @@ const LENGTHS: [(u8, usize, u8); 30] = [
     (4, 19, 10),
     (4, 21, 10),
     (5, 19, 10),
+    (5, 21, 10),
     (6, 25, 10),
     (6, 27, 10),
+    (7, 19, 10),
     (7, 21, 10),
     (8, 19, 10),
+    (8, 21, 10),
+    (9, 19, 10),
     (9, 21, 10),
     (10, 19, 10),
+    (10, 21, 10),
+    (11, 19, 10),
     (11, 21, 10),
     (12, 23, 10),
     (12, 25, 10),
+    (13, 19, 10),
     (13, 21, 10),
 ];
 
@@ -190,6 +197,44 @@ fn pairs() -> Result<(), Fail> {
             answer(kind, len, [first, second, (600, 0), (600, 0)]),
             expected,
         )?;
+    }
+    Ok(())
+}
+
+// LSN, HSN, word count, length, answer: a HACK with no flag set.
+const HACKS: [(u32, u32, u16, usize, u8); 11] = [
+    (31, 286, 9, 74, 0),
+    (31, 287, 9, 74, 11),
+    (40, 295, 9, 74, 0),
+    (40, 296, 9, 74, 11),
+    (40, 72, 9, 74, 11),
+    (40, 72, 10, 78, 11),
+    (40, 72, 10, 74, 10),
+    (1, 0, 0, 38, 0),
+    (u32::MAX, u32::MAX - 1, 0, 38, 0),
+    (u32::MAX - 1, u32::MAX - 1, 1, 42, 0),
+    (u32::MAX - 1, u32::MAX, 1, 42, 11),
+];
+
+fn put_fields(bytes: &mut [u8; 78], lsn: u32, hsn: u32, count: u16) {
+    bytes[24..28].copy_from_slice(&lsn.to_be_bytes());
+    bytes[28..32].copy_from_slice(&hsn.to_be_bytes());
+    bytes[32..36].copy_from_slice(&lsn.saturating_sub(1).to_be_bytes());
+    bytes[36..38].copy_from_slice(&count.to_be_bytes());
+}
+
+// A HACK of so many bytes whose words are 0.
+fn hack_number(lsn: u32, hsn: u32, count: u16, len: usize) -> u8 {
+    let mut bytes = [0u8; 78];
+    copy_front(vector(3), &mut bytes[0..38]);
+    put_fields(&mut bytes, lsn, hsn, count);
+    number(&bytes[0..len.min(78)])
+}
+
+#[test]
+fn hacks() -> Result<(), Fail> {
+    for (lsn, hsn, count, len, expected) in HACKS {
+        check_eq(hack_number(lsn, hsn, count, len), expected)?;
     }
     Ok(())
 }
