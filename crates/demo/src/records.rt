@@ -1,4 +1,5 @@
 // A queue and a station's archive: records are offered, archived out of order, and released.
+use crate::packets::arrive;
 use crate::packets::carry;
 use crate::tell_refusal;
 use queue::Queue;
@@ -74,15 +75,14 @@ fn release<Q: Store>(rt: &LibcRuntime, queue: &mut Queue<Q>) -> io::Result<()> {
     read_back(rt, queue, 4)
 }
 
-// The whole task; it gives the packet of the last record.
-pub fn task<Q: MadeOver + Drop, A: MadeOver + Drop>(
-    rt: &LibcRuntime,
-) -> Result<[u8; 40], AnyError> {
+// The whole task, over one kind of store for the queue and one for the archive.
+pub fn task<Q: MadeOver + Drop, A: MadeOver + Drop>(rt: &LibcRuntime) -> Result<(), AnyError> {
     let mut queue = Queue::new(Q::new(vec![in rt.alloc(); 0u8; 1554]?));
     let mut station = A::new(vec![in rt.alloc(); 0u8; 2072]?);
     fill_and_archive(rt, &mut queue, &mut station)?;
     release(rt, &mut queue)?;
     let packet = carry(rt, &mut queue, 4)?;
+    arrive(rt, packet, &mut station)?;
     let queued = queue.into_store().into_memory();
     let archived = station.into_memory();
     let queue_bytes = queued.len();
@@ -91,5 +91,5 @@ pub fn task<Q: MadeOver + Drop, A: MadeOver + Drop>(
         rt,
         "  memory given back: {queue_bytes} and {archive_bytes} bytes"
     )?;
-    Ok(packet)
+    Ok(())
 }

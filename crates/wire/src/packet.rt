@@ -36,7 +36,8 @@ pub impl PartialEq<TreeId> for TreeId as TreeIdPartialEq {
 
 pub impl Eq for TreeId as TreeIdEq {}
 
-// A report of what is held: `flags` lie as in a packet, with the positions before `lsn` set and those after `hsn` clear.
+// A report of what is held: `flags` lie as in a packet. A report that was read has the positions before `lsn` set and those
+// after `hsn` clear; in any other they may hold anything, and `write` sets them.
 #[derive(Clone, Copy)]
 pub struct Hack {
     pub term: u32,

@@ -1,4 +1,5 @@
-// The codec for programs in C and Rust: each call answers one number, which is the refusal's where the codec refuses.
+// A few calls of the codec for programs in C and Rust: each answers one number, which is the refusal's where the codec
+// refuses. The caller passes pointers that are valid for the lengths given with them.
 ghost use mathlib.Core.Path.{_≡_};
 ghost use Rattle.wire.specs.Decoding.{decode};
 ghost use Rattle.wire.specs.Plain.{plain-body, plain-packet};
@@ -59,6 +60,7 @@ fn digest(packet: &Packet<'_>) -> u64
     stream ^ writer ^ addressee ^ body_digest(&packet.body)
 }
 
+// Reads a packet: a number that depends on all of its fields, so that a reader that skips one is found out.
 #[unsafe(no_mangle)]
 pub extern "C" fn wire_read(bytes: &[u8]) -> u64
     ensures { λ r. ⌜ r ≡ read-number (decode (now (bytes .entry))) ⌝ }
@@ -92,6 +94,7 @@ pub extern "C" fn wire_rewrite(bytes: &[u8], out: &mut [u8]) -> u64
     }
 }
 
+// Writes a Data packet of a fixed tree and stream.
 #[unsafe(no_mangle)]
 pub extern "C" fn wire_write_data(writer: u16, number: u32, payload: &[u8], out: &mut [u8]) -> u64
     ensures answer { λ r. ⌜ r ≡ write-number (packet-answer (packet-from writer (Data number (now (payload .entry)))) (now (out .entry))) ⌝ }
@@ -107,6 +110,7 @@ pub extern "C" fn wire_write_data(writer: u16, number: u32, payload: &[u8], out:
     write_number(&packet, out)
 }
 
+// Writes a JoinStream packet of a fixed tree and stream.
 #[unsafe(no_mangle)]
 pub extern "C" fn wire_write_join(writer: u16, term: u32, out: &mut [u8]) -> u64
     ensures answer { λ r. ⌜ r ≡ write-number (packet-answer (packet-from writer (JoinStream term)) (now (out .entry))) ⌝ }
@@ -122,6 +126,7 @@ pub extern "C" fn wire_write_join(writer: u16, term: u32, out: &mut [u8]) -> u64
     write_number(&packet, out)
 }
 
+// Writes a HACK of a fixed tree and stream.
 #[unsafe(no_mangle)]
 pub extern "C" fn wire_write_hack(writer: u16, report: &Report, out: &mut [u8]) -> u64
     ensures answer { λ r. ⌜ r ≡ write-number (packet-answer (packet-from writer (HackOf (hack-of (now (report .entry))))) (now (out .entry))) ⌝ }
