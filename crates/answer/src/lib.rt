@@ -1,6 +1,5 @@
 // What a call answers when it does not do what was asked: every refusal of the product, once.
 ghost use mathlib.Core.Path.{_≡_};
-ghost use Prim.Native.Nat.{ℕ};
 ghost use Rattle.std.specs.declared.option.Option.the-variants.{Some};
 ghost use Rattle.answer.specs.Refusals.{refusal-number, refusal-text};
 use std::fmt;

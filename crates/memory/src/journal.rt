@@ -2,14 +2,14 @@
 // It knows the highest number that it has held, so a newer number is known at once to be new.
 ghost use mathlib.Core.Path.{_≡_};
 ghost use mathlib.Core.Bool.{true, false};
-ghost use mathlib.Core.List.{List, [], _∷_, _++_};
+ghost use mathlib.Core.List.{[], _∷_, _++_};
 ghost use Prim.Native.Nat.{ℕ, _+_, _/_, _<_, _≤_};
 ghost use lib.ListN.{length, drop};
 ghost use lib.Seq.{paste};
 ghost use Rattle.std.specs.Of.Vec.{vec-items};
 ghost use Rattle.std.specs.Options.{isSome};
 ghost use Rattle.std.specs.Slices.{found};
-ghost use Rattle.store.specs.Pairs.{Pair, pair, holds, above, in-order, good, distinct};
+ghost use Rattle.store.specs.Pairs.{pair, holds, above, in-order, good, distinct};
 ghost use Rattle.memory.specs.Records.{records, span, Found};
 use super::layout::HEAD;
 use super::layout::ROOM;

@@ -1,6 +1,6 @@
 // A record in memory: its number in 4 bytes and its length in 2, highest byte first, and then the payload.
 ghost use mathlib.Core.Path.{_≡_};
-ghost use Prim.Native.Nat.{ℕ, _+_, _<_, _≤_};
+ghost use Prim.Native.Nat.{_+_, _<_, _≤_};
 ghost use lib.ListN.{length, drop};
 ghost use lib.Seq.{paste};
 ghost use Rattle.memory.specs.Records.{number-of, length-of, size-of, body-at, encoded};

@@ -2,14 +2,14 @@
 // remainder; while every record lies at home, one look tells whether a number is held.
 ghost use mathlib.Core.Path.{_≡_};
 ghost use mathlib.Core.Bool.{true, false, _&&_};
-ghost use mathlib.Core.List.{List, [], _∷_, _++_};
-ghost use Prim.Native.Nat.{ℕ, _+_, _*_, _/_, _%_, _<_, _≤_};
+ghost use mathlib.Core.List.{[]};
+ghost use Prim.Native.Nat.{_+_, _*_, _/_, _%_, _<_};
 ghost use lib.Dec.{ltb, eqb};
-ghost use lib.ListN.{length, drop};
+ghost use lib.ListN.{length};
 ghost use Rattle.std.specs.Of.Vec.{vec-items};
 ghost use Rattle.std.specs.Options.{isSome};
 ghost use Rattle.std.specs.Slices.{found};
-ghost use Rattle.store.specs.Pairs.{Pair, pair, holds, add, above, in-order, good, distinct};
+ghost use Rattle.store.specs.Pairs.{pair, holds, add, above, in-order, good, distinct};
 ghost use Rattle.memory.specs.Records.{length-of, Found};
 ghost use Rattle.memory.specs.Slots.{slot-count, slot, one, slots, slot-pairs, Short, Homed};
 use super::layout::ROOM;

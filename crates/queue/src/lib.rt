@@ -1,7 +1,6 @@
 // A queue of records over any store: it numbers what is offered, reads it back and releases it.
 // All of it is proved from the store's trait alone.
 ghost use mathlib.Core.Path.{_≡_};
-ghost use Prim.Native.Nat.{ℕ};
 ghost use lib.ListN.{length};
 ghost use Rattle.std.specs.Results.{isOk};
 ghost use Rattle.store.specs.Operations.{copy-answer, copy-buffer};

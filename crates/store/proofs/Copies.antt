@@ -1,19 +1,15 @@
 -- What a copy that was not refused tells of the store, and of the buffer's front. Assumes nothing.
 use mathlib.Core.Path.{_≡_, sym, ap, _∙_}
-use mathlib.Core.Bool.{true, false}
-use mathlib.Core.List.{List, _++_}
-use mathlib.Core.Logic.{inl, inr}
+use mathlib.Core.Bool.{true}
+use mathlib.Core.List.{List}
 use Prim.Native.Nat.{ℕ}
 use native.Mathlib.Omega.{arith}
-use lib.ListN.{length, take, drop}
-use Rattle.std.specs.declared.result.Result.{Result}
-use Rattle.std.specs.declared.result.Result.the-variants.{Ok, Err}
+use lib.ListN.{length, take}
+use Rattle.std.specs.declared.result.Result.the-variants.{Ok}
 use Rattle.std.proofs.shelf.Lists.{take-at}
-use Rattle.std.proofs.shelf.Tests.{cases-bool, cond-true, cond-false}
 use Rattle.std.proofs.shelf.Ways.{tells}
-use Rattle.answer.specs.declared.Refusal.{Refusal}
 use Rattle.store.specs.Pairs.{Meaning, holds, payload-of}
-use Rattle.store.specs.Operations.{copy-answer, copy-buffer, fit-answer}
+use Rattle.store.specs.Operations.{copy-answer, copy-buffer}
 
 pub record Copied (m : Meaning) (n len : ℕ) (after : List ℕ) : Type 0 where
   pub held : holds n (m .pairs) ≡ true

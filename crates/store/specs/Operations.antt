@@ -8,7 +8,7 @@ use Rattle.std.specs.declared.result.Result.{Result}
 use Rattle.std.specs.declared.result.Result.the-variants.{Ok, Err}
 use Rattle.answer.specs.declared.Refusal.{Refusal}
 use Rattle.answer.specs.declared.Refusal.the-variants.{BadNumber, BadLength, Held, Full, NotHeld, ShortBuffer}
-use Rattle.store.specs.Pairs.{Pair, pair, Meaning, holds, payload-of, add, above, good-number, good-length}
+use Rattle.store.specs.Pairs.{pair, Meaning, holds, payload-of, add, above, good-number, good-length}
 
 -- put: the number first, then the length, then whether it is held, then the room
 abbrev pub put-answer : Meaning → ℕ → List ℕ → Result (Unit {0}) Refusal
