@@ -1,4 +1,4 @@
-// What a call answers when it does not do what was asked: every refusal of the product, once.
+// What calls answer: every refusal of the product, once, and what became of a packet that was not refused.
 ghost use mathlib.Core.Path.{_≡_};
 ghost use Rattle.std.specs.declared.option.Option.the-variants.{Some};
 ghost use Rattle.answer.specs.Refusals.{refusal-number, refusal-text};
@@ -70,6 +70,19 @@ impl Refusal {
             Refusal::NotQueued => "the wanted number is no longer queued",
         }
     }
+}
+
+// What a deliver that is not refused made of its packet.
+#[derive(Clone, Copy, PartialEq, Eq, Debug)]
+pub enum Outcome {
+    // Old or out of place: nothing changed.
+    Stale,
+    // Taken, and this receiver should report now.
+    Due,
+    // The archive has no room: nothing changed.
+    Full,
+    // Taken.
+    Taken,
 }
 
 pub impl fmt::Display for Refusal as RefusalDisplay {

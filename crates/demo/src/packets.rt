@@ -14,7 +14,7 @@ const LONGEST: usize = 534;
 
 // A packet: the first `len` of the bytes.
 #[derive(Clone, Copy)]
-pub struct Carried {
+pub(crate) struct Carried {
     bytes: [u8; LONGEST],
     len: usize,
 }
@@ -28,7 +28,11 @@ fn tell_bytes(rt: &LibcRuntime, bytes: &[u8]) -> io::Result<()> {
 }
 
 // Takes a record from the queue, and shows and gives the Data packet that carries it.
-pub fn carry<Q: Store>(rt: &LibcRuntime, queue: &mut Queue<Q>, number: u32) -> io::Result<Carried> {
+pub(crate) fn carry<Q: Store>(
+    rt: &LibcRuntime,
+    queue: &mut Queue<Q>,
+    number: u32,
+) -> io::Result<Carried> {
     let mut payload = [0u8; 512];
     let mut bytes = [0u8; LONGEST];
     let size = match queue.read(number, &mut payload) {
@@ -97,7 +101,11 @@ fn receive_changed<A: Store>(
 }
 
 // The packet with one thing wrong at a time, and then whole, twice.
-pub fn arrive<A: Store>(rt: &LibcRuntime, packet: Carried, station: &mut A) -> io::Result<()> {
+pub(crate) fn arrive<A: Store>(
+    rt: &LibcRuntime,
+    packet: Carried,
+    station: &mut A,
+) -> io::Result<()> {
     let len = packet.len.min(LONGEST);
     receive(
         rt,

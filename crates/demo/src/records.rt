@@ -76,7 +76,9 @@ fn release<Q: Store>(rt: &LibcRuntime, queue: &mut Queue<Q>) -> io::Result<()> {
 }
 
 // The whole task, over one kind of store for the queue and one for the archive.
-pub fn task<Q: MadeOver + Drop, A: MadeOver + Drop>(rt: &LibcRuntime) -> Result<(), AnyError> {
+pub(crate) fn task<Q: MadeOver + Drop, A: MadeOver + Drop>(
+    rt: &LibcRuntime,
+) -> Result<(), AnyError> {
     let mut queue = Queue::new(Q::new(vec![in rt.alloc(); 0u8; 1554]?));
     let mut station = A::new(vec![in rt.alloc(); 0u8; 2072]?);
     fill_and_archive(rt, &mut queue, &mut station)?;

@@ -6,3 +6,5 @@ pub mod Lengths
 pub mod Back
 pub mod Forth
 pub mod Ignored
+pub mod Packed
+pub mod HeldWords

@@ -3,7 +3,7 @@
 use mathlib.Core.List.{List, map}
 use mathlib.Core.Bool.{Bool, cond, not, _&&_, _||_}
 use mathlib.Core.Path.{_≡_}
-use Prim.Native.Nat.{ℕ, _+_, _-_, _*_, _/_, _%_, _^_, _≤_, _<_, min}
+use Prim.Native.Nat.{ℕ, zero, suc, _+_, _-_, _*_, _/_, _%_, _^_, _≤_, _<_, min}
 use lib.Bits.{bitAnd, bitOr}
 use lib.Dec.{ltb, leb, eqb}
 use lib.ListN.{getD}
@@ -50,6 +50,15 @@ canonical-words lsn hsn f = map (λ i. canonical-word lsn hsn i (f i)) (counting
 -- whether a HACK says that number n is held: it lies below LSN, or from LSN to HSN with flag 1
 abbrev pub held-by : Hack → ℕ → Bool
 held-by h n = ltb n (h .lsn) || (leb n (h .hsn) && eqb (flag-of (h .lsn) (h .flags) n) 1)
+
+-- the flags f of k positions as a number, position 0 the highest bit
+abbrev pub packed : (ℕ → Bool) → ℕ → ℕ
+packed f zero = 0
+packed f (suc k) = packed f k * 2 + cond (f k) 1 0
+
+-- the word of the 32 numbers from 32 × block on: 1 where `held` says so
+unfoldable pub word-from : (ℕ → Bool) → ℕ → ℕ
+word-from held block = packed (λ j. held (32 * block + j)) 32
 
 -- the missing numbers: in order, those from LSN to HSN that are not held
 unfoldable pub missing-numbers : Hack → List ℕ

@@ -18,7 +18,7 @@ pub(crate) fn word_count(lsn: u32, hsn: u32) -> u32
 }
 
 // The word whose first `k` positions are set.
-fn leading_ones(k: u32) -> u32
+pub(crate) fn leading_ones(k: u32) -> u32
     requires { ⌜ k ≤ 32 ⌝ }
     ensures { λ r. ⌜ r ≡ leading-ones k ⌝ }
 {

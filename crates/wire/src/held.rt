@@ -1,13 +1,14 @@
 // What a HACK says of single numbers: which are held, and which are missing.
 ghost use mathlib.Core.Path.{_≡_};
 ghost use mathlib.Core.Bool.{true};
-ghost use Prim.Native.Nat.{_≤_};
+ghost use Prim.Native.Nat.{_-_, _≤_, min};
 ghost use lib.Dec.{eqb};
-ghost use lib.ListN.{length};
+ghost use lib.ListN.{length, getD};
 ghost use Rattle.wire.specs.Fields.{overwrite};
-ghost use Rattle.wire.specs.Flags.{flag-of, held-by, missing-numbers};
+ghost use Rattle.wire.specs.Flags.{flag-of, held-by, leading-ones, word-from, missing-numbers};
 ghost use Rattle.wire.specs.Ranges.{hack-fields-in-range, hack-in-range};
 ghost use Rattle.wire.specs.Encoding.{write-answer, buffer-after};
+use crate::flags::leading_ones;
 use crate::packet::Hack;
 use crate::ranges::hack_in_range;
 use answer::Refusal;
@@ -47,7 +48,34 @@ fn write_missing(hack: &Hack, numbers: &mut [u32])
     }
 }
 
+// The word whose first positions, as many as there are numbers from `from` on that lie below `to`, are set.
+fn ones_below(to: u64, from: u64) -> u32
+    ensures { λ r. ⌜ r ≡ leading-ones (min 32 (to - from)) ⌝ }
+{
+    leading_ones(to.saturating_sub(from).min(32) as u32)
+}
+
+// Word `i` of the nine, and 0 past these.
+fn word_at(flags: [u32; 9], i: usize) -> u32
+    ensures { λ r. ⌜ r ≡ getD flags i 0 ⌝ }
+{
+    if i < 9 { flags[i] } else { 0 }
+}
+
 impl Hack {
+    // The flags of the 32 numbers from 32 × `block` on, the first at the highest bit: set where the report says that the number is held.
+    pub fn word(&self, block: u32) -> u32
+        ensures { λ r. ⌜ r ≡ word-from (held-by (now (self .entry))) block ⌝ }
+    {
+        let first = self.lsn / 32;
+        if block < first {
+            return u32::MAX;
+        }
+        let word = word_at(self.flags, (block - first) as usize);
+        let from = 32 * block as u64;
+        (word & ones_below(self.hsn as u64 + 1, from)) | ones_below(self.lsn as u64, from)
+    }
+
     // Whether the report says that `number` is held: all below LSN are, and of LSN to HSN those with their flag set.
     pub fn holds(&self, number: u32) -> bool
         ensures { λ r. ⌜ r ≡ held-by (now (self .entry)) number ⌝ }

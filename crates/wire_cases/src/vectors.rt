@@ -1,5 +1,5 @@
 // A packet of each type, in bytes: tree 1 to 6, stream 32769, from node 7 to node 9.
-pub fn vector(kind: u8) -> &'static [u8] {
+pub(crate) fn vector(kind: u8) -> &'static [u8] {
     match kind {
         1 =>
             b"\x20\x01\x01\x02\x03\x04\x05\x06\x80\x01\x00\x07\x00\x09\x00\x00\x00\x00\x00\x05\x00\x03abc",
@@ -23,7 +23,7 @@ pub fn vector(kind: u8) -> &'static [u8] {
 }
 
 // Copies as many bytes as there is room for.
-pub fn copy_front(bytes: &[u8], out: &mut [u8]) {
+pub(crate) fn copy_front(bytes: &[u8], out: &mut [u8]) {
     let room = out.len();
     for (at, byte) in bytes.iter().enumerate() {
         if at < room {

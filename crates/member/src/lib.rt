@@ -1,0 +1,4 @@
+// The joining rules, written once for every kind of member.
+pub mod kind;
+pub mod member;
+pub mod types;
