@@ -85,6 +85,13 @@ pub enum Outcome {
     Taken,
 }
 
+// The answer of a deliver that is not refused, with the length of the reply, or 0 for none.
+#[derive(Clone, Copy)]
+pub struct Delivered {
+    pub outcome: Outcome,
+    pub reply: usize,
+}
+
 pub impl fmt::Display for Refusal as RefusalDisplay {
     ghost shown = { λ s. Some (refusal-text s) };
 

@@ -1,2 +1,4 @@
-// The inner nodes of the tree: what a control node is as a member.
+// The inner nodes of the tree: the control node and the top.
 pub mod kind;
+pub mod node;
+mod taking;

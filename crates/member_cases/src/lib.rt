@@ -1,3 +1,5 @@
-// Cases for the joining rules, over the rows of a control node: every row of the tables, each refusal, and rejoining.
+// Cases for the joining rules and the control node: every row of the tables, each refusal, and rejoining.
 #[cfg(test)]
 mod joining;
+#[cfg(test)]
+mod nodes;
