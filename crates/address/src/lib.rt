@@ -1,4 +1,6 @@
 // Who a node is on the channel: which packets are for it, and what it writes.
+#![tactic(auto)]
+
 ghost use Rattle.std.specs.Prelude.{◌≡◌};
 ghost use Rattle.wire.specs.Encoding.{encode, buffer_after};
 ghost use Rattle.wire.specs.Plain.{plain_packet};

@@ -1,4 +1,6 @@
 // What calls answer: every refusal of the product, once, and what became of a packet that was not refused.
+#![tactic(auto)]
+
 ghost use Rattle.std.specs.Prelude.{◌≡◌, Some};
 ghost use Rattle.answer.specs.Refusals.{refusal_number, refusal_text};
 

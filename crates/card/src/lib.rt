@@ -1,4 +1,6 @@
 // A worked example for makers of memory cards: a store with room for one record, and its proof.
+#![tactic(auto)]
+
 ghost use Rattle.std.specs.Prelude.{◌≡◌, ◌≤◌, true, [], ◌∷◌, length, nat_le};
 ghost use Rattle.store.specs.Pairs.{pair, good, distinct};
 ghost use Rattle.card.specs.Cards.{card_capacity, card_pairs, card_meaning};

@@ -1,4 +1,2 @@
 pub mod Members
 pub mod Checks
-pub mod Parents
-pub mod Sounds

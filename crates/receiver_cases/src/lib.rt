@@ -1,5 +1,7 @@
 // Cases for the receiver, run through the same steps over both kinds of store: when a report is due, a full archive, the
 // edges of the window, joining again with an older start, and each refusal of deliver.
+#![tactic(auto)]
+
 #[cfg(test)]
 mod tests {
     use address::Address;

@@ -1,4 +1,6 @@
 // The sender: it numbers payloads, queues them until the tree holds them, and learns from reports what to send again.
+#![tactic(auto)]
+
 mod making;
 mod phase;
 mod reports;

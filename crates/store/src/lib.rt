@@ -1,4 +1,6 @@
 // Stores of numbered payloads: what a store means, and the trait by which one is shown to be a store.
+#![tactic(auto)]
+
 ghost use Rattle.std.specs.Prelude.{◌≡◌, ℕ, ◌/◌, false, List, [], length, is_ok, vec_len};
 ghost use Rattle.store.specs.Pairs.{Meaning, Sound, holds};
 ghost use Rattle.store.specs.Operations.{put_answer, put_after, copy_answer, copy_buffer, forget_after};

@@ -1,5 +1,7 @@
 // Cases for both kinds of store, run through the same steps: each refusal at its edges, capacity 0, 1 and many,
 // the longest payload, slots that wrap, and forgetting nothing and all.
+#![tactic(auto)]
+
 #[cfg(test)]
 mod tests {
     use answer::Refusal;

@@ -1,4 +1,6 @@
 // A whole town in one value: its sender, its top, and every node below.
+#![tactic(auto)]
+
 mod making;
 mod node;
 pub mod standing;

@@ -1,4 +1,6 @@
 // The packets of the protocol as bytes: `read` and `write`, and the flags of a HACK.
+#![tactic(auto)]
+
 mod fields;
 mod flags;
 mod held;

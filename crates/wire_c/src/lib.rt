@@ -1,5 +1,7 @@
 // A few calls of the codec for programs in C and Rust: each answers one number, which is the refusal's where the codec
 // refuses. The caller passes pointers that are valid for the lengths given with them.
+#![tactic(auto)]
+
 ghost use Rattle.std.specs.Prelude.{◌≡◌};
 ghost use Rattle.wire.specs.Decoding.{decode};
 ghost use Rattle.wire.specs.Plain.{plain_body, plain_packet};

@@ -1,4 +1,6 @@
 // Worked packets, run: each body in bytes, each refusal at its edges, the flags of a HACK.
+#![tactic(auto)]
+
 #[cfg(test)]
 mod bodies;
 #[cfg(test)]

@@ -5,4 +5,4 @@ use Rattle.wire.proofs.fields.put_u32.Goals as goal
 
 pub returns : goal.returns
 unfolding field_bytes
-returns c = overwrite_part _ _ _ _ _ (c.copy-from-slice.ensures.after ∙ c.to-be-bytes.ensures) (omega arith)
+returns c = overwrite_part _ _ _ _ _ (c.copy_from_slice.ensures.after ∙ c.to_be_bytes.ensures) (omega arith)

@@ -23,9 +23,9 @@ unfolding headed
 returns-in-Some c =
     let b = c.args.bytes.now in
     let own : Body (List ℕ) = plain_body c.in-Some.body in
-    (λ i. Some (record { tree = record { 0 = six_bytes b 2 }; stream = c.u16-at-stream.ensures i; writer = c.u16-at-writer.ensures i; addressee = c.u16-at-addressee.ensures i; body = own }))
+    (λ i. Some (record { tree = record { 0 = six_bytes b 2 }; stream = c.u16_at-stream.ensures i; writer = c.u16_at-writer.ensures i; addressee = c.u16_at-addressee.ensures i; body = own }))
     ∙ some_larger (headed b) (counts_agree b) (header_in_range (short_at b 8) (short_at b 10)) (body_in_range (body_at b)) (body_at b) own
-    (sym (c.if-not-header-in-range.ensures ∙ (λ i. header_in_range (c.u16-at-stream.ensures i) (c.u16-at-writer.ensures i))))
+    (sym (c.if-not-header_in_range.ensures ∙ (λ i. header_in_range (c.u16_at-stream.ensures i) (c.u16_at-writer.ensures i))))
     c.in-Some.ensures
 
 pub returns-in-None : goal.returns-in-None
@@ -33,5 +33,5 @@ unfolding headed
 returns-in-None c =
     let b = c.args.bytes.now in
     none_larger (headed b) (counts_agree b) (header_in_range (short_at b 8) (short_at b 10)) (body_in_range (body_at b)) (body_at b)
-    (sym (c.if-not-header-in-range.ensures ∙ (λ i. header_in_range (c.u16-at-stream.ensures i) (c.u16-at-writer.ensures i))))
+    (sym (c.if-not-header_in_range.ensures ∙ (λ i. header_in_range (c.u16_at-stream.ensures i) (c.u16_at-writer.ensures i))))
     c.in-None.ensures

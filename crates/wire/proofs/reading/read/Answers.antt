@@ -22,7 +22,7 @@ returns-in-Some c =
     let p = plain_packet c.in-Some.packet in
     let is : Ok p ≡ decode b =
     some_ok (counts_agree b && packet_in_range (packet_at b)) (packet_at b) p OutOfRange c.in-Some.ensures
-    ∙ sym (on b _ c.if-bytes-lt16.false c.if-header-wrong.ensures c.if-type-wrong.ensures c.if-not-length-fits.ensures) in
+    ∙ sym (on b _ c.if-bytes-lt16.false c.if-header_wrong.ensures c.if-type_wrong.ensures c.if-not-length_fits.ensures) in
     record { is = is; canonical = reads_canonical b p (sym is); flags = flags_as_sent b p (sym is); writes_back = same_but_ignored b p (λ i. (c.type-inv.bytes i).fits) (sym is) }
 
 pub returns-in-None : goal.returns-in-None
@@ -30,7 +30,7 @@ returns-in-None c =
     let b = c.args.bytes.now in
     record {
       is = none_err (counts_agree b && packet_in_range (packet_at b)) (packet_at b) OutOfRange c.in-None.ensures
-          ∙ sym (on b _ c.if-bytes-lt16.false c.if-header-wrong.ensures c.if-type-wrong.ensures c.if-not-length-fits.ensures);
+          ∙ sym (on b _ c.if-bytes-lt16.false c.if-header_wrong.ensures c.if-type_wrong.ensures c.if-not-length_fits.ensures);
       canonical = tt;
       flags = tt;
       writes_back = tt;

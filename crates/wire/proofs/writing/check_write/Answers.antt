@@ -15,14 +15,14 @@ body_in p v = (and_parts (header_in_range p.stream p.writer) (body_in_range p.bo
 pub returns-then-out-size : goal.returns-then-out-size
 returns-then-out-size c =
     let p = plain_packet c.args.packet.now in
-    let v : true ≡ packet_in_range p = c.if-not-in-range.ensures in
-    no_room (packet_in_range p) (length c.args.out.now) (length (encode p)) ShortOutput OutOfRange (sym v) (omega (arith, length_encode p (body_in p v), c.body-length-size.ensures.is, c.if-out-size.true))
+    let v : true ≡ packet_in_range p = c.if-not-in_range.ensures in
+    no_room (packet_in_range p) (length c.args.out.now) (length (encode p)) ShortOutput OutOfRange (sym v) (omega (arith, length_encode p (body_in p v), c.body_length-size.ensures.is, c.if-out-size.true))
 
 pub returns : goal.returns
 returns c =
     let p = plain_packet c.args.packet.now in
-    let v : true ≡ packet_in_range p = c.if-not-in-range.ensures in
+    let v : true ≡ packet_in_range p = c.if-not-in_range.ensures in
     let size : length (encode p) ≡ 16 + body_length p.body = length_encode p (body_in p v) in
-    let is = c.body-length-size.ensures.is in
+    let is = c.body_length-size.ensures.is in
     let fits = c.if-out-size.false in
-    some_room (packet_in_range p) (length c.args.out.now) (length (encode p)) (16 + c.body-length-size.result) ShortOutput OutOfRange (sym v) (omega arith) (omega arith)
+    some_room (packet_in_range p) (length c.args.out.now) (length (encode p)) (16 + c.body_length-size.result) ShortOutput OutOfRange (sym v) (omega arith) (omega arith)

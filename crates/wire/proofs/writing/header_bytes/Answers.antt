@@ -8,8 +8,8 @@ unfolding short_bytes
 returns c = record {
   typed = record { tree = c.bytes-tree.ensures.long; stream = search rules; writer = search rules; addressee = search rules };
   is = λ i.
-      32 ∷ c.type-of.ensures i ∷ (six_bytes (c.bytes-tree.ensures.is i) 0 ++
-      (get_or (c.to-be-bytes-stream.ensures i) 0 0 ∷ get_or (c.to-be-bytes-stream.ensures i) 1 0
-      ∷ get_or (c.to-be-bytes-writer.ensures i) 0 0 ∷ get_or (c.to-be-bytes-writer.ensures i) 1 0
+      32 ∷ c.type_of.ensures i ∷ (six_bytes (c.bytes-tree.ensures.is i) 0 ++
+      (get_or (c.to_be_bytes-stream.ensures i) 0 0 ∷ get_or (c.to_be_bytes-stream.ensures i) 1 0
+      ∷ get_or (c.to_be_bytes-writer.ensures i) 0 0 ∷ get_or (c.to_be_bytes-writer.ensures i) 1 0
       ∷ get_or (c.to-be-bytes-addressee.ensures i) 0 0 ∷ get_or (c.to-be-bytes-addressee.ensures i) 1 0 ∷ 0 ∷ 0 ∷ []));
 }

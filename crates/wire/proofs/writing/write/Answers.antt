@@ -42,11 +42,11 @@ unfolding short_bytes
 returns c =
     let p = plain_packet c.args.packet.now in
     let out = c.args.out.now in
-    let size = c.in-ok-size.size in
-    let r = room_for p out size c.in-ok-size.ensures in
-    let after = overwrite_next 0 16 (header_bytes p) (body_bytes p.body) out c.write-header.ensures.after c.write-body.ensures.after (sym (length_header p)) (omega (arith, length_header p)) in
+    let size = c.in_ok-size.size in
+    let r = room_for p out size c.in_ok-size.ensures in
+    let after = overwrite_next 0 16 (header_bytes p) (body_bytes p.body) out c.write_header.ensures.after c.write_body.ensures.after (sym (length_header p)) (omega (arith, length_header p)) in
     record {
-      answer = c.in-ok-size.ensures;
-      reads_back = ap decode (ap (take size) after ∙ take_overwrite (encode p) out size r.all) ∙ reads_back p c.write-header.ensures.typed c.write-body.ensures.typed r.good;
+      answer = c.in_ok-size.ensures;
+      reads_back = ap decode (ap (take size) after ∙ take_overwrite (encode p) out size r.all) ∙ reads_back p c.write_header.ensures.typed c.write_body.ensures.typed r.good;
       buffer = after;
     }

@@ -18,10 +18,10 @@ loop-i-preserved c =
     let f = λ (k : ℕ). get_or h.flags k 0 in
     let ws = canonical_words h.lsn h.hsn f in
     let nine = length_canonical_words h.lsn h.hsn f in
-    let bound = c.word-count-count.ensures.bound in
+    let bound = c.word_count-count.ensures.bound in
     let w = canonical_word h.lsn h.hsn i (get_or h.flags i 0) in
     let long : length (flat_map field_bytes (take i ws)) ≡ 4 * i = length_joined (take i ws) ∙ ap (λ n. 4 * n) (length-take-le i ws (omega arith)) in
-    overwrite_next 0 (4 * i) (flat_map field_bytes (take i ws)) (field_bytes w) out c.loop-i.invariant (c.put-u32.ensures ∙ ap (λ x. overwrite (4 * i) (field_bytes x) c.loop-i.out) c.canonical-word.ensures) (omega arith) (omega arith)
+    overwrite_next 0 (4 * i) (flat_map field_bytes (take i ws)) (field_bytes w) out c.loop-i.invariant (c.put_u32.ensures ∙ ap (λ x. overwrite (4 * i) (field_bytes x) c.loop-i.out) c.canonical_word.ensures) (omega arith) (omega arith)
     ∙ ap (λ l. overwrite 0 l out)
     (ap (λ x. flat_map field_bytes (take i ws) ++ field_bytes x) (sym (canonical_words_at h.lsn h.hsn f i (omega arith)))
     ∙ flat_map_more field_bytes [] (take i ws) (get_or ws i 0) ∙ ap (flat_map field_bytes) (sym (take_more ws i 0 (omega arith))))
@@ -29,5 +29,5 @@ loop-i-preserved c =
 pub returns : goal.returns
 returns c =
     let h = c.args.hack.now in
-    let all : c.loop-i.i ≡ word_count h.lsn h.hsn = omega (arith, c.word-count-count.ensures.is) in
+    let all : c.loop-i.i ≡ word_count h.lsn h.hsn = omega (arith, c.word_count-count.ensures.is) in
     subst (λ n. c.loop-i.out ≡ overwrite 0 (flat_map field_bytes (take n (canonical_words h.lsn h.hsn (λ k. get_or h.flags k 0)))) c.args.out.now) all c.loop-i.invariant

@@ -1,6 +1,5 @@
 use Rattle.std.proofs.Common.{◌≡◌, ◌+◌, min, sym, refl, ap, ◌∙◌, arith, rules}
-use Rattle.wire.specs.Flags.{held_words}
-use Rattle.rows.specs.Tables.{rows_of, highest_high, all_hold}
+use Rattle.rows.specs.Tables.{rows_of, highest_high, held_words, all_hold}
 use Rattle.control.specs.Controls.{summary_from}
 use Rattle.control.proofs.kind.RowsRowTableKind.summarize.Goals as goal
 

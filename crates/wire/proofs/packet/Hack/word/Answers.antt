@@ -8,7 +8,7 @@ returns-then-block-first c = all_held c.args.self.now c.args.block c.if-block-fi
 
 pub returns : goal.returns
 returns c =
-    let w = c.word-at-word.result in
-    ap (λ x. bit_or (bit_and w x) c.ones-below-2.result) c.ones-below.ensures
-    ∙ ap (bit_or _) c.ones-below-2.ensures
-    ∙ held_word c.args.self.now c.args.block w c.if-block-first.false c.word-at-word.ensures
+    let w = c.word_at-word.result in
+    ap (λ x. bit_or (bit_and w x) c.ones_below-2.result) c.ones_below.ensures
+    ∙ ap (bit_or _) c.ones_below-2.ensures
+    ∙ held_word c.args.self.now c.args.block w c.if-block-first.false c.word_at-word.ensures

@@ -1,3 +1,0 @@
-pub mod Sounds
-pub mod Hearing
-pub mod Given
