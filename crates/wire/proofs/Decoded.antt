@@ -1,5 +1,5 @@
 -- A packet that was read is within its ranges. Assumes nothing.
-use Rattle.std.proofs.Common.{◌≡◌, ℕ, Bool, true, not, ◌&&◌, eqb, ltb, List, length, Ok, Err, Result, sym, refl, ap, ◌∙◌, arith}
+use Rattle.std.proofs.Common.{◌≡◌, ℕ, true, not, ◌&&◌, eqb, ltb, List, length, Ok, Err, Result, sym, ap, ◌∙◌, arith}
 use Rattle.std.proofs.lemmas.Bool.{cond_both, and_parts}
 use Rattle.answer.specs.declared.Refusal.{Refusal}
 use Rattle.wire.specs.Decoding.{decode, header_wrong, type_wrong, expected_length, counts_agree, packet_at}

@@ -1,10 +1,9 @@
 -- The flags of 32 numbers, as a HACK holds them. Assumes nothing.
-use Rattle.std.proofs.Common.{◌≡◌, ℕ, ◌+◌, ◌-◌, ◌*◌, ◌/◌, ◌%◌, ◌^◌, ◌<◌, ◌≤◌, min, max, Bool, true, false, cond, ◌&&◌, ◌||◌, eqb, ltb, leb, List, get_or, sym, refl, ap, ◌∙◌, inl, inr, arith}
+use Rattle.std.proofs.Common.{◌≡◌, ℕ, ◌+◌, ◌-◌, ◌*◌, ◌/◌, ◌%◌, ◌^◌, ◌<◌, ◌≤◌, min, max, Bool, true, false, cond, ◌&&◌, ◌||◌, eqb, ltb, leb, List, get_or, sym, ap, ◌∙◌, inl, inr, arith}
 use lib.Bits.{bit_and, bit_or, and_le_r, or_lt}
-use Rattle.std.proofs.lemmas.Nat.{div-mul-add, mod-mul-add}
 use Rattle.std.proofs.lemmas.Bool.{cases_lt, lt-ltb, le-ltb, le-leb, lt-leb}
 use Rattle.std.proofs.lemmas.Bool.Decides.{nat_tests}
-use Rattle.wire.specs.Flags.{flag_at, flag_of, word_of, leading_ones, held_by, word_from}
+use Rattle.wire.specs.Flags.{flag_at, flag_of, leading_ones, held_by, word_from}
 use Rattle.wire.specs.declared.packet.Hack.{Hack}
 use Rattle.wire.proofs.Words.{flag_two, flag_and, flag_or, flag_leading_ones, leading_ones_below}
 use Rattle.wire.proofs.Packed.{word_from_is}

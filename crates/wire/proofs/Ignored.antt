@@ -7,7 +7,7 @@ use Rattle.std.proofs.lemmas.Bool.Decides.{nat_tests}
 use Rattle.wire.specs.Decoding.{decode, type_at, hack_at, packet_at, bodies_by_type, lengths_by_type, expected_length, hack_counts_agree, counts_agree}
 use Rattle.wire.specs.Encoding.{encode, hack_words}
 use Rattle.wire.specs.Fields.{field_at, short_at, field_bytes}
-use Rattle.wire.specs.Flags.{word_count, canonical_word, canonical_words, held_by, Canonical}
+use Rattle.wire.specs.Flags.{word_count, canonical_word, canonical_words, Canonical}
 use Rattle.wire.specs.Laws.{SameButIgnored, FlagsAsSent}
 use Rattle.wire.specs.Ranges.{body_in_range, header_in_range, hack_fields_in_range, low_flag_clear, packet_in_range}
 use Rattle.wire.specs.declared.packet.Body.TheVariants.{Heartbeat}

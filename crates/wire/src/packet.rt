@@ -1,11 +1,14 @@
 // What a packet holds: its header, and one of thirteen bodies.
-ghost use Rattle.std.specs.Prelude.{◌≡◌, length};
+ghost use Rattle.std.specs.Prelude.{◌≡◌, length, Decides, bytes_eq};
+ghost use Rattle.std.specs.Cmp.Rules.{comparing};
+ghost use Rattle.std.proofs.Common.{rules};
+ghost use Rattle.std.specs.Cmp as Keys;
 ghost use Rattle.wire.specs.Plain.{plain_packet, bare_packet};
 
 use std::convert::Infallible;
 
 // Which tree a packet belongs to.
-#[derive(Clone, Copy, PartialEq, Eq)]
+#[derive(Clone, Copy)]
 pub struct TreeId(pub [u8; 6]);
 
 impl TreeId {
@@ -17,6 +20,27 @@ impl TreeId {
         let TreeId(bytes) = self;
         bytes
     }
+}
+
+fn same_bytes(a: &[u8; 6], b: &[u8; 6]) -> bool
+    ensures decides { Decides result (a.now ≡ b.now) }
+    ensures is { result ≡ bytes_eq a.now b.now }
+{
+    a == b
+}
+
+impl PartialEq for TreeId {
+    ghost eq = { λ x y. bytes_eq x.0 y.0 };
+
+    ghost laws = { Keys.partial_equiv_from_equiv (Prim.search (comparing, rules)) };
+
+    fn eq(&self, other: &TreeId) -> bool {
+        same_bytes(&self.0, &other.0)
+    }
+}
+
+impl Eq for TreeId {
+    ghost laws = { Prim.search (comparing, rules) };
 }
 
 // A report of what is held: `flags` lie as in a packet. A report that was read has the positions before `lsn` set and those

@@ -7,8 +7,8 @@ use Rattle.wire.proofs.held.count_missing.Goals.{then-not-holds, else-not-holds}
 pub loop-number-init : goal.loop-number-init
 loop-number-init c = sym (ap length (missing_none c.args.hack.now))
 
-pub overflow-add-count : goal.overflow-add-count
-overflow-add-count c = record { fits = omega (arith, missing_few c.args.hack.now c.loop-number.number, c.loop-number.invariant) }
+pub overflow_add-count : goal.overflow_add-count
+overflow_add-count c = record { fits = omega (arith, missing_few c.args.hack.now c.loop-number.number, c.loop-number.invariant) }
 
 pub loop-number-preserved : goal.loop-number-preserved
 loop-number-preserved c =

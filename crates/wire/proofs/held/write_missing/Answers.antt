@@ -11,16 +11,16 @@ loop-number-init c =
     let e = missing_none c.args.hack.now in
     (sym (ap length e), overwrite_none c.args.numbers.now ∙ sym (ap (λ l. overwrite 0 l c.args.numbers.now) e))
 
-pub offset-bounds-numbers-count : goal.offset-bounds-numbers-count
-offset-bounds-numbers-count c = record { fits = omega (arith, missing_few c.args.hack.now c.loop-number.number, c.loop-number.invariant.0) }
+pub offset_bounds-numbers-count : goal.offset_bounds-numbers-count
+offset_bounds-numbers-count c = record { fits = omega (arith, missing_few c.args.hack.now c.loop-number.number, c.loop-number.invariant.0) }
 
 pub bounds-numbers-count : goal.bounds-numbers-count
 bounds-numbers-count c =
     let h = c.args.hack.now in
     omega (arith, c.loop-number.invariant.0, c.loop-number.auto.numbers, missing_room h c.loop-number.number c.loop-number.auto.number (omega arith) (sym c.holds.ensures ∙ c.if-not-holds.true))
 
-pub overflow-add-count : goal.overflow-add-count
-overflow-add-count c = record { fits = omega (arith, missing_few c.args.hack.now c.loop-number.number, c.loop-number.invariant.0) }
+pub overflow_add-count : goal.overflow_add-count
+overflow_add-count c = record { fits = omega (arith, missing_few c.args.hack.now c.loop-number.number, c.loop-number.invariant.0) }
 
 pub loop-number-preserved : goal.loop-number-preserved
 loop-number-preserved c =

@@ -12,11 +12,11 @@ use Rattle.wire.proofs.reading.packet_at.Goals as goal
 headed : List ℕ → Body (List ℕ) → Message (List ℕ)
 headed b x = record { tree = record { 0 = six_bytes b 2 }; stream = short_at b 8; writer = short_at b 10; addressee = short_at b 12; body = x }
 
-pub returns-then-not-header-in-range : goal.returns-then-not-header-in-range
-returns-then-not-header-in-range c =
+pub returns-then-not-header_in_range : goal.returns-then-not-header_in_range
+returns-then-not-header_in_range c =
     let b = c.args.bytes.now in
     no_header (counts_agree b) (header_in_range (short_at b 8) (short_at b 10)) (body_in_range (body_at b)) (packet_at b)
-    (sym (c.if-not-header-in-range.ensures ∙ (λ i. header_in_range (c.u16-at-stream.ensures i) (c.u16-at-writer.ensures i))))
+    (sym (c.if-not-header_in_range.ensures ∙ (λ i. header_in_range (c.u16_at-stream.ensures i) (c.u16_at-writer.ensures i))))
 
 pub returns-in-Some : goal.returns-in-Some
 unfolding headed

@@ -23,7 +23,7 @@ returns-in-Some c =
     let is : Ok p ≡ decode b =
     some_ok (counts_agree b && packet_in_range (packet_at b)) (packet_at b) p OutOfRange c.in-Some.ensures
     ∙ sym (on b _ c.if-bytes-lt16.false c.if-header_wrong.ensures c.if-type_wrong.ensures c.if-not-length_fits.ensures) in
-    record { is = is; canonical = reads_canonical b p (sym is); flags = flags_as_sent b p (sym is); writes_back = same_but_ignored b p (λ i. (c.type-inv.bytes i).fits) (sym is) }
+    record { is = is; canonical = reads_canonical b p (sym is); flags = flags_as_sent b p (sym is); writes_back = same_but_ignored b p (λ i. (c.type_inv.bytes i).fits) (sym is) }
 
 pub returns-in-None : goal.returns-in-None
 returns-in-None c =

@@ -11,5 +11,5 @@ returns c = record {
       32 ∷ c.type_of.ensures i ∷ (six_bytes (c.bytes-tree.ensures.is i) 0 ++
       (get_or (c.to_be_bytes-stream.ensures i) 0 0 ∷ get_or (c.to_be_bytes-stream.ensures i) 1 0
       ∷ get_or (c.to_be_bytes-writer.ensures i) 0 0 ∷ get_or (c.to_be_bytes-writer.ensures i) 1 0
-      ∷ get_or (c.to-be-bytes-addressee.ensures i) 0 0 ∷ get_or (c.to-be-bytes-addressee.ensures i) 1 0 ∷ 0 ∷ 0 ∷ []));
+      ∷ get_or (c.to_be_bytes-addressee.ensures i) 0 0 ∷ get_or (c.to_be_bytes-addressee.ensures i) 1 0 ∷ 0 ∷ 0 ∷ []));
 }

@@ -27,15 +27,15 @@ room_for p out size h =
     let b = (and_parts (header_in_range p.stream p.writer) (body_in_range p.body) r.0).1 in
     record { good = r.0; in_body = b; all = r.2; long = length_encode p b; room = r.1 }
 
-pub write-header-requires : goal.write-header-requires
-write-header-requires c =
-    let r = room_for (plain_packet c.args.packet.now) c.args.out.now c.in-ok-size.size c.in-ok-size.ensures in
+pub write_header-requires : goal.write_header-requires
+write_header-requires c =
+    let r = room_for (plain_packet c.args.packet.now) c.args.out.now c.in_ok-size.size c.in_ok-size.ensures in
     omega arith
 
-pub write-body-requires : goal.write-body-requires
-write-body-requires c =
-    let r = room_for (plain_packet c.args.packet.now) c.args.out.now c.in-ok-size.size c.in-ok-size.ensures in
-    (r.in_body, omega (arith, c.write-header.auto.out))
+pub write_body-requires : goal.write_body-requires
+write_body-requires c =
+    let r = room_for (plain_packet c.args.packet.now) c.args.out.now c.in_ok-size.size c.in_ok-size.ensures in
+    (r.in_body, omega (arith, c.write_header.auto.out))
 
 pub returns : goal.returns
 unfolding short_bytes

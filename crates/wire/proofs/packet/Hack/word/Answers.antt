@@ -1,4 +1,4 @@
-use Rattle.std.proofs.Common.{◌-◌, ◌*◌, min, ap, ◌∙◌}
+use Rattle.std.proofs.Common.{ap, ◌∙◌}
 use lib.Bits.{bit_and, bit_or}
 use Rattle.wire.proofs.HeldWords.{all_held, held_word}
 use Rattle.wire.proofs.packet.Hack.word.Goals as goal
