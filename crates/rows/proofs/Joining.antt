@@ -1,8 +1,8 @@
 -- The flags of the rows together, one row after another. Assumes nothing.
-use Rattle.std.proofs.Common.{◌≡◌, ℕ, ◌+◌, ◌*◌, ◌^◌, ◌<◌, min, Bool, true, false, cond, not, ◌&&◌, ◌||◌, List, [], ◌∷◌, sym, refl, ap, ◌∙◌, inl, inr, arith}
+use Rattle.std.proofs.Common.{◌≡◌, ℕ, ◌+◌, ◌*◌, min, Bool, true, false, cond, not, ◌&&◌, ◌||◌, List, [], ◌∷◌, sym, refl, ap, ◌∙◌, inl, inr, arith}
 use lib.Bits.{bit_and, and_le_r}
 use Rattle.std.proofs.lemmas.Bool.{cases_Bool, cond-true, cond-false, lt-ltb}
-use Rattle.wire.specs.Flags.{flag_at, word_from, leading_ones}
+use Rattle.wire.specs.Flags.{word_from, leading_ones}
 use Rattle.wire.proofs.Words.{flag_and, flag_leading_ones}
 use Rattle.wire.proofs.Packed.{word_from_flag, word_from_below, word_from_is}
 use Rattle.rows.specs.declared.row.Row.{Row}

@@ -1,6 +1,5 @@
 -- One row of a control node, and what each packet of its child makes of it. Assumes nothing.
-use Rattle.std.specs.Prelude.{ℕ, ◌+◌, ◌-◌, Bool, true, false, cond, ◌&&◌, List, replicate, Some, None, Option, ◌==◌, nat_le, nat_lt}
-use Rattle.answer.specs.declared.Outcome.{Outcome}
+use Rattle.std.specs.Prelude.{ℕ, ◌-◌, Bool, true, false, cond, ◌&&◌, replicate, Some, None, Option, ◌==◌, nat_le, nat_lt}
 use Rattle.answer.specs.declared.Outcome.TheVariants.{Stale, Taken}
 use Rattle.wire.specs.Flags.{held_by}
 use Rattle.wire.specs.declared.packet.Hack.{Hack}

@@ -1,13 +1,12 @@
 -- The rows of a control node together: whose row is whose, what a child's packet does, and what is reported of all
 -- live rows. Assumes nothing.
-use Rattle.std.specs.Prelude.{ℕ, ◌+◌, ◌/◌, max, Bool, true, false, cond, not, ◌&&◌, ◌||◌, List, [], ◌∷◌, map, Some, None, vec_items, Option, ◌==◌, bit_and, nat_le, slice_index_or, slice_set}
-use Rattle.std.specs.List.{range_with_len}
+use Rattle.std.specs.Prelude.{ℕ, ◌+◌, max, Bool, true, false, cond, not, ◌&&◌, ◌||◌, List, [], ◌∷◌, Some, None, vec_items, Option, ◌==◌, bit_and, nat_le, slice_index_or, slice_set}
 use Rattle.wire.specs.Flags.{word_from}
 use Rattle.rows.specs.declared.row.Row.{Row}
 use Rattle.rows.specs.declared.row.FromChild.{FromChild}
 use Rattle.rows.specs.declared.row.Decision.{Decision}
 use Rattle.rows.specs.declared.table.RowTable.{RowTable}
-use Rattle.rows.specs.Rows.{new_row, low_of, high_of, row_holds, decision}
+use Rattle.rows.specs.Rows.{new_row, low_of, high_of, row_holds, live_at, decision}
 
 abbrev pub rows_of : RowTable → List Row
 rows_of t = vec_items t.rows
@@ -34,6 +33,14 @@ abbrev pub rows_after : Option Decision → List Row → Option ℕ → List Row
 rows_after None rs k = rs
 rows_after (Some d) rs None = rs
 rows_after (Some d) rs (Some k) = slice_set rs k d.row
+
+-- whether a child has a live row with a term
+abbrev pub live_in : ℕ → List Row → Option ℕ → Bool
+live_in t rs None = false
+live_in t rs (Some k) = live_at t (row_at k rs)
+
+abbrev pub has_live_row : ℕ → ℕ → List Row → Bool
+has_live_row child t rs = live_in t rs (slot_of child rs)
 
 abbrev pub any_live : List Row → Bool
 any_live [] = false
@@ -70,7 +77,3 @@ all_hold (r ∷ rs) n = (not r.live || row_holds r n) && all_hold rs n
 -- the flags of 32 numbers that are left once a row has been looked at too
 abbrev pub word_with : Row → ℕ → ℕ → ℕ
 word_with r block w = cond r.live (bit_and w (word_from (row_holds r) block)) w
-
--- the nine flag words of a report from LSN on: a flag is 1 where every live row holds the number
-abbrev pub held_words : (ℕ → Bool) → ℕ → List ℕ
-held_words held lsn = map (λ i. word_from held (lsn / 32 + i)) (range_with_len 0 9)

@@ -15,4 +15,4 @@ returns-in-Some c =
     let slot = c.in-Some.ensures in
     let inside = slot_inside c.args.child rows c.in-Some.slot slot in
     let row : c.index.result.now ≡ row_at c.in-Some.slot rows = c.index.ensures ∙ get_or_default rows c.in-Some.slot _ (new_row 0) inside in
-    c.live-at.ensures ∙ ap (live_at c.args.term) row ∙ ap (live_in c.args.term rows) slot
+    c.live_at.ensures ∙ ap (live_at c.args.term) row ∙ ap (live_in c.args.term rows) slot

@@ -9,8 +9,8 @@ pub index-row-requires : goal.index-row-requires
 index-row-requires c =
     let t = c.args.self.now in omega (arith, slot_inside c.args.child (rows_of t) c.in-Some.slot c.in-Some.ensures, t.rows.ok.0)
 
-pub row-mut-requires : goal.row-mut-requires
-row-mut-requires c =
+pub row_mut-requires : goal.row_mut-requires
+row_mut-requires c =
     let t = c.args.self.now in omega (arith, slot_inside c.args.child (rows_of t) c.in-Some.slot c.in-Some.ensures, t.rows.ok.0)
 
 pub returns : goal.returns
