@@ -3,7 +3,8 @@ use Rattle.std.specs.Prelude.{◌≡◌, ℕ, ◌+◌, ◌≤◌, min, true, Lis
 use Rattle.rows.specs.declared.row.Row.{Row}
 use Rattle.rows.specs.declared.table.RowTable.{RowTable}
 use Rattle.rows.specs.Rows.{low_of, dead_row}
-use Rattle.rows.specs.Tables.{rows_of, lowest_row, highest_high, all_hold, held_words}
+use Rattle.wire.specs.Flags.{held_words}
+use Rattle.rows.specs.Tables.{rows_of, lowest_row, highest_high, all_hold}
 use Rattle.member.specs.declared.types.Summary.{Summary}
 use Rattle.control.specs.declared.kind.Rows.{Rows}
 
