@@ -1,5 +1,5 @@
 -- What is let in past the address, and replies that are within range. Assumes nothing.
-use Rattle.std.proofs.Common.{◌≡◌, ℕ, true, List, Some, None, Ok, Err, Option, Result, subst, arith}
+use Rattle.std.proofs.Common.{◌≡◌, ℕ, true, Some, None, Ok, Err, Option, Result, subst, arith}
 use Rattle.std.specs.declared.convert.Infallible.{Infallible}
 use Rattle.std.proofs.lemmas.Bool.{and_from}
 use Rattle.answer.specs.declared.Refusal.{Refusal}

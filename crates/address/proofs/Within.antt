@@ -1,14 +1,13 @@
 -- What a node with a sound address writes is never refused for a value out of range, if the body is not. Assumes nothing.
-use Rattle.std.proofs.Common.{◌≡◌, ℕ, Bool, true, false, cond, ltb, leb, List, length, Ok, Err, Result, sym, refl, subst, arith}
+use Rattle.std.proofs.Common.{◌≡◌, ℕ, Bool, true, false, cond, ltb, leb, List, length, Ok, Err, Result, sym, subst, arith}
 use Rattle.std.specs.declared.convert.Infallible.{Infallible}
 use Rattle.std.proofs.lemmas.Bool.{le-leb, lt-ltb, and_from}
 use Rattle.answer.specs.declared.Refusal.{Refusal}
-use Rattle.answer.specs.declared.Refusal.TheVariants.{OutOfRange, ShortOutput}
+use Rattle.answer.specs.declared.Refusal.TheVariants.{ShortOutput}
 use Rattle.wire.specs.Encoding.{encode, write_answer}
 use Rattle.wire.specs.Plain.{map_body, no_payload}
 use Rattle.wire.specs.Ranges.{header_in_range, body_in_range, packet_in_range}
 use Rattle.wire.specs.declared.packet.Body.{Body}
-use Rattle.wire.specs.declared.packet.Message.{Message}
 use Rattle.address.specs.declared.Address.{Address}
 use Rattle.address.specs.Addresses.{packet_of, written}
 use Rattle.address.specs.Sounds.{AddressSound, WithinRange}
