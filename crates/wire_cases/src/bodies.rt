@@ -93,7 +93,7 @@ fn header_is_read(rt: HostRuntime) -> Result<(), Fail> {
 fn payload_is_lent(rt: HostRuntime) -> Result<(), Fail> {
     match read(vector(1))?.body {
         Body::Data { number, payload } => {
-            assert!(rt; number == 5 && payload == b"abc");
+            assert!(rt; number == 5 && payload == b"abc".as_slice());
             Ok(())
         },
         _ => Err(Fail::new("not Data")),
