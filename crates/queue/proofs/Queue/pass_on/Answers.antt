@@ -6,16 +6,16 @@ use Rattle.store.proofs.Keeping.{stored}
 use Rattle.store.proofs.Copies.{copied}
 use Rattle.queue.proofs.Queue.pass_on.Goals as goal
 
-pub returns-in-err-len : goal.returns-in-err-len
-returns-in-err-len g c = search (rules, stored)
+pub returns-in_err-len : goal.returns-in_err-len
+returns-in_err-len g c = search (rules, stored)
 
 pub returns : goal.returns
 returns g c =
     let n = c.args.number in
     let from = g.S.Store.meaning c.args.self.now.store in
     let to = g.A.Store.meaning c.args.archive.now in
-    let len = c.in-ok-len.len in
-    let e = c.in-ok-len.ensures in
+    let len = c.in_ok-len.len in
+    let e = c.in_ok-len.ensures in
     let k = copied from n _ len _ c.copy.new.buffer e.answer e.buffer in
     let whole : len - 0 ≡ len = omega arith in
     let cut : take (len - 0) c.copy.new.buffer ≡ payload_of n from.pairs = ap (λ j. take j c.copy.new.buffer) whole ∙ k.front in
