@@ -38,44 +38,48 @@ fn check_reported<Q: Store + Drop>(rt: &impl Abort, sender: Open<Q>) {
 }
 
 // Too old in each of the four ways: the term, the serial, the stable, and an HSN that was never offered.
-fn old_in_each_way<Q: MadeOver + Drop>(rt: &impl Abort, heap: Global) -> Result<(), Fail> {
+fn old_in_each_way<Q: MadeOver + Drop>(
+    rt: &impl Abort,
+    kind: &str,
+    heap: Global,
+) -> Result<(), Fail> {
     let mut sender = reported::<Q>(rt, heap)?;
     let fresh = report(6, 4, 3, 0);
     let other_term = Body::Hack(Hack { term: 2, ..fresh });
-    assert_eq!(rt; bring(rt, &mut sender, TOP, 0, other_term)?, 100);
+    assert_eq!(rt; bring(rt, &mut sender, TOP, 0, other_term)?, 100, "{kind}");
     let same_serial = Body::Hack(Hack { serial: 5, ..fresh });
-    assert_eq!(rt; bring(rt, &mut sender, TOP, 0, same_serial)?, 100);
+    assert_eq!(rt; bring(rt, &mut sender, TOP, 0, same_serial)?, 100, "{kind}");
     let back = Body::Hack(report(6, 1, 3, 0x8000_0000));
-    assert_eq!(rt; bring(rt, &mut sender, TOP, 0, back)?, 100);
+    assert_eq!(rt; bring(rt, &mut sender, TOP, 0, back)?, 100, "{kind}");
     let ahead = Body::Hack(report(6, 2, 4, 0xd000_0000));
-    assert_eq!(rt; bring(rt, &mut sender, TOP, 0, ahead)?, 100);
+    assert_eq!(rt; bring(rt, &mut sender, TOP, 0, ahead)?, 100, "{kind}");
     check_reported(rt, sender);
     Ok(())
 }
 
 #[test]
 fn stale_reports(rt: HostRuntime) -> Result<(), Fail> {
-    old_in_each_way::<Journal>(&rt, rt.alloc()).note("journal")?;
-    old_in_each_way::<SlotStore>(&rt, rt.alloc()).note("slot store")
+    old_in_each_way::<Journal>(&rt, "journal", rt.alloc())?;
+    old_in_each_way::<SlotStore>(&rt, "slot store", rt.alloc())
 }
 
 // A report with nothing missing leaves nothing wanted, at an ended stream too.
-fn all_held<Q: MadeOver + Drop>(rt: &impl Abort, heap: Global) -> Result<(), Fail> {
+fn all_held<Q: MadeOver + Drop>(rt: &impl Abort, kind: &str, heap: Global) -> Result<(), Fail> {
     let mut sender = reported::<Q>(rt, heap)?.end();
-    assert_eq!(rt; sender.wanted().wants(2), true);
+    assert_eq!(rt; sender.wanted().wants(2), true, "{kind}");
     let all = Body::Hack(report(6, 4, 3, 0));
-    assert_eq!(rt; bring(rt, &mut sender, TOP, 0, all)?, 103);
-    assert_eq!(rt; sender.released(), 3);
-    assert_eq!(rt; sender.wanted().wants(2), false);
-    assert_eq!(rt; bring(rt, &mut sender, TOP, 0, all)?, 100);
-    assert_eq!(rt; sender.into_queue().has(3), false);
+    assert_eq!(rt; bring(rt, &mut sender, TOP, 0, all)?, 103, "{kind}");
+    assert_eq!(rt; sender.released(), 3, "{kind}");
+    assert_eq!(rt; sender.wanted().wants(2), false, "{kind}");
+    assert_eq!(rt; bring(rt, &mut sender, TOP, 0, all)?, 100, "{kind}");
+    assert_eq!(rt; sender.into_queue().has(3), false, "{kind}");
     Ok(())
 }
 
 #[test]
 fn nothing_missing(rt: HostRuntime) -> Result<(), Fail> {
-    all_held::<Journal>(&rt, rt.alloc()).note("journal")?;
-    all_held::<SlotStore>(&rt, rt.alloc()).note("slot store")
+    all_held::<Journal>(&rt, "journal", rt.alloc())?;
+    all_held::<SlotStore>(&rt, "slot store", rt.alloc())
 }
 
 // 7, 13, 14, 15 and 12, each before the next.
