@@ -11,8 +11,8 @@ ROOT = pathlib.Path(__file__).resolve().parent.parent
 def defined():
     """Name -> (number, text), from the definitions."""
     spec = (ROOT / "crates/answer/specs/Refusals.antt").read_text()
-    numbers = dict(re.findall(r"^refusal-number (\w+) = (\d+)$", spec, re.M))
-    texts = dict(re.findall(r'^refusal-text (\w+) = codes "([^"]*)"$', spec, re.M))
+    numbers = dict(re.findall(r"^refusal_number (\w+) = (\d+)$", spec, re.M))
+    texts = dict(re.findall(r'^refusal_text (\w+) = codes "([^"]*)"$', spec, re.M))
     return {name: (int(number), texts[name]) for name, number in numbers.items()}
 
 

@@ -5,26 +5,23 @@ set -euo pipefail
 cd "$(dirname "$0")/.."
 
 layers=(answer store wire address sender)
-kit=$(dirname "$(dirname "$(readlink -f "$(command -v rt)")")")
 scratch=$(mktemp -d)
 trap 'rm -rf "$scratch"' EXIT
 
-# The crates that the programs use, as sources, away from the repository and from what earlier runs left.
-mkdir "$scratch/probe"
-libraries=()
-while IFS=: read -r name below; do
-    libraries+=(--lib "$name:$(echo $below | tr ' ' ,)=$kit/$name/src/lib.rt")
-done <"$kit/libs.txt"
+# The crates that the programs use, away from the repository and from what earlier runs left.
+git init -q "$scratch"
 for name in "${layers[@]}"; do
-    mkdir "$scratch/$name"
-    cp -R "crates/$name/src" "$scratch/$name/src"
-    libraries+=(--lib "$name=$scratch/$name/src/lib.rt")
+    mkdir -p "$scratch/crates/$name"
+    cp -R "crates/$name/src" "crates/$name/specs" "$scratch/crates/$name/"
+    grep "^$name:" crates.txt >>"$scratch/crates.txt"
 done
+echo "probe: ${layers[*]}" >>"$scratch/crates.txt"
+mkdir -p "$scratch/crates/probe/src"
 
-# Compiles the program on the standard input; says what the compiler says if it refuses it.
+# Compiles and runs the program on the standard input; says what the compiler says if it refuses it.
 compiled() {
-    cat >"$scratch/probe/main.rt"
-    "$kit/bin/rattle-print-mir" "$scratch/probe/main.rt" --crate-name probe "${libraries[@]}" 2>"$scratch/said" >/dev/null
+    cat >"$scratch/crates/probe/src/main.rt"
+    (cd "$scratch/crates/probe" && rt try) >"$scratch/said" 2>&1
 }
 
 fail() {
