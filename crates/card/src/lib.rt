@@ -4,7 +4,7 @@
 ghost use Rattle.std.specs.Prelude.{◌≡◌, ◌≤◌, true, [], ◌∷◌, length, nat_le};
 ghost use Rattle.store.specs.Pairs.{pair, good, distinct};
 ghost use Rattle.card.specs.Cards.{card_capacity, card_pairs, card_meaning};
-ghost use Rattle.std.proofs.Common.{rules, arith};
+ghost use Rattle.std.proofs.Common.{rules};
 
 use answer::Refusal;
 use store::Store;
@@ -51,7 +51,7 @@ impl Store for Card {
 
     ghost medium = { λ s. s.memory.items };
 
-    ghost sound = { first_of (Prim.search rules, Prim.grind (arith, Self.row.coded.inj)) };
+    ghost sound = { Prim.search rules };
 
     fn put(&mut self, number: u32, payload: &[u8]) -> Result<(), Refusal> {
         check_pair(number, payload)?;
