@@ -1,7 +1,6 @@
 -- A test of equal bytes is the one that the definitions compute. Assumes nothing.
-use Rattle.std.proofs.Common.{◌≡◌, ℕ, Bool, true, false, eqb, List, [], ◌∷◌, Decides, bytes_eq, sym, refl, ◌∙◌, subst, inl, inr}
+use Rattle.std.proofs.Common.{◌≡◌, ℕ, Bool, true, false, eqb, List, [], ◌∷◌, Decides, sym, refl, ◌∙◌, subst, inl, inr}
 use Rattle.std.proofs.lemmas.Bool.{both_ways, cases_Bool, eq-eqb, eqb-true, and_parts, and_from}
-use Rattle.std.proofs.lemmas.Slice.Eq.{bytes_eq-Decides}
 use Rattle.control.specs.Incomings.{same_bytes}
 
 same_self : (xs : List ℕ) → same_bytes xs xs ≡ true
@@ -28,6 +27,3 @@ decides_same r xs ys d =
             | inr f ↦ f ∙ sym not_same
           ]
     ]
-
-pub equal_same : (r : Bool) (xs ys : List ℕ) → r ≡ bytes_eq xs ys → r ≡ same_bytes xs ys
-equal_same r xs ys e = decides_same r xs ys (subst (λ b. Decides b (xs ≡ ys)) (sym e) (bytes_eq-Decides xs ys))

@@ -25,7 +25,10 @@ pub(crate) fn leading_ones(k: u32) -> u32
 
 // Word `i`, with the positions before `lsn` set and those after `hsn` clear.
 pub(crate) fn canonical_word(lsn: u32, hsn: u32, i: u32, word: u32) -> u32
-    requires { (i < 9) × ((lsn ≤ hsn + 1) × ((hsn ≤ lsn + 255) × (hsn < 2 ^ 32 - 1))) }
+    requires word { i < 9 }
+    requires near { lsn ≤ hsn + 1 }
+    requires far { hsn ≤ lsn + 255 }
+    requires most { hsn < 2 ^ 32 - 1 }
     ensures { result ≡ canonical_word lsn hsn i word }
 {
     let before = (lsn % 32).saturating_sub(32 * i);

@@ -33,7 +33,8 @@ fn count_missing(hack: &Hack) -> usize
 }
 
 fn write_missing(hack: &Hack, numbers: &mut [u32])
-    requires { (hack_fields_in_range hack.now.term hack.now.serial hack.now.lsn hack.now.hsn ≡ true) × (length (missing_numbers hack.now) ≤ length numbers.old) }
+    requires ranged { hack_fields_in_range hack.now.term hack.now.serial hack.now.lsn hack.now.hsn ≡ true }
+    requires room { length (missing_numbers hack.now) ≤ length numbers.old }
     ensures { numbers.new ≡ overwrite 0 (missing_numbers hack.now) numbers.old }
 {
     let mut count = 0;

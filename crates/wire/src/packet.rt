@@ -2,7 +2,7 @@
 ghost use Rattle.std.specs.Prelude.{◌≡◌, length, Decides, bytes_eq};
 ghost use Rattle.std.specs.Cmp.Rules.{comparing};
 ghost use Rattle.std.proofs.Common.{rules};
-ghost use Rattle.std.specs.Cmp as Keys;
+ghost use Rattle.std.specs.Cmp.{partial_equiv_from_equiv};
 ghost use Rattle.wire.specs.Plain.{plain_packet, bare_packet};
 
 use std::convert::Infallible;
@@ -32,9 +32,12 @@ fn same_bytes(a: &[u8; 6], b: &[u8; 6]) -> bool
 impl PartialEq for TreeId {
     ghost eq = { λ x y. bytes_eq x.0 y.0 };
 
-    ghost laws = { Keys.partial_equiv_from_equiv (Prim.search (comparing, rules)) };
+    ghost laws = { partial_equiv_from_equiv (Prim.search (comparing, rules)) };
 
-    fn eq(&self, other: &TreeId) -> bool {
+    fn eq(&self, other: &TreeId) -> bool
+        ensures decides { Decides result (self.now.0 ≡ other.now.0) }
+        ensures is { result ≡ bytes_eq self.now.0 other.now.0 }
+    {
         same_bytes(&self.0, &other.0)
     }
 }

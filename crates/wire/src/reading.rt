@@ -14,7 +14,8 @@ use answer::Refusal;
 
 // Whether the length is the one that the type and its counts ask for.
 fn length_fits(bytes: &[u8]) -> bool
-    requires { (16 ≤ length bytes.now) × (type_wrong bytes.now ≡ false) }
+    requires header { 16 ≤ length bytes.now }
+    requires typed { type_wrong bytes.now ≡ false }
     ensures { result ≡ (length bytes.now == expected_length bytes.now) }
 {
     let len = bytes.len();
@@ -29,7 +30,9 @@ fn length_fits(bytes: &[u8]) -> bool
 
 // The body of any type but a HACK.
 fn simple_body(bytes: &[u8]) -> Body<&[u8]>
-    requires { (type_wrong bytes.now ≡ false) × ((length bytes.now ≡ expected_length bytes.now) × ((type_at bytes.now ≢ 3))) }
+    requires typed { type_wrong bytes.now ≡ false }
+    requires long { length bytes.now ≡ expected_length bytes.now }
+    requires simple { type_at bytes.now ≢ 3 }
     ensures { plain_body result ≡ body_at bytes.now }
 {
     let first = u32_at(bytes, 16);
@@ -64,7 +67,9 @@ fn simple_body(bytes: &[u8]) -> Body<&[u8]>
 
 // Whether the fields of any type but a HACK lie in their ranges: on the numbers, before a body is made.
 fn simple_in_range(bytes: &[u8]) -> bool
-    requires { (type_wrong bytes.now ≡ false) × ((length bytes.now ≡ expected_length bytes.now) × ((type_at bytes.now ≢ 3))) }
+    requires typed { type_wrong bytes.now ≡ false }
+    requires long { length bytes.now ≡ expected_length bytes.now }
+    requires simple { type_at bytes.now ≢ 3 }
     ensures { result ≡ body_in_range (body_at bytes.now) }
 {
     let first = u32_at(bytes, 16);
@@ -86,7 +91,8 @@ fn simple_in_range(bytes: &[u8]) -> bool
 
 // The body, unless a field is outside its range.
 fn body_at(bytes: &[u8]) -> Option<Body<&[u8]>>
-    requires { (type_wrong bytes.now ≡ false) × (length bytes.now ≡ expected_length bytes.now) }
+    requires typed { type_wrong bytes.now ≡ false }
+    requires long { length bytes.now ≡ expected_length bytes.now }
     ensures { plain_some_body result ≡ (if counts_agree bytes.now && body_in_range (body_at bytes.now) then Some (body_at bytes.now) else None) }
 {
     if bytes[1] == 3 {
@@ -104,7 +110,9 @@ fn body_at(bytes: &[u8]) -> Option<Body<&[u8]>>
 
 // The packet, unless a field is outside its range.
 fn packet_at(bytes: &[u8]) -> Option<Packet<'_>>
-    requires { (type_wrong bytes.now ≡ false) × ((length bytes.now ≡ expected_length bytes.now) × (16 ≤ length bytes.now)) }
+    requires typed { type_wrong bytes.now ≡ false }
+    requires long { length bytes.now ≡ expected_length bytes.now }
+    requires header { 16 ≤ length bytes.now }
     ensures { plain_some_packet result ≡ (if counts_agree bytes.now && packet_in_range (packet_at bytes.now) then Some (packet_at bytes.now) else None) }
 {
     let tree = TreeId([bytes[2], bytes[3], bytes[4], bytes[5], bytes[6], bytes[7]]);

@@ -12,7 +12,8 @@ use crate::ranges::hack_fields_in_range;
 
 // The four bytes at `at` as a number, or 0 past the end.
 fn word_at(bytes: &[u8], at: usize) -> u32
-    requires { (at < 2 ^ 32) × ((at < length bytes.now → at + 4 ≤ length bytes.now)) }
+    requires near { at < 2 ^ 32 }
+    requires whole { at < length bytes.now → at + 4 ≤ length bytes.now }
     ensures { result ≡ field_at bytes.now at }
 {
     if at < bytes.len() {
@@ -24,7 +25,11 @@ fn word_at(bytes: &[u8], at: usize) -> u32
 
 // The flag words of a HACK, with the positions outside `lsn` to `hsn` set right.
 fn flags_at(bytes: &[u8], lsn: u32, hsn: u32) -> [u32; 9]
-    requires { (38 ≤ length bytes.now) × (((length bytes.now - 38) % 4 ≡ 0) × ((lsn ≤ hsn + 1) × ((hsn ≤ lsn + 255) × (hsn < 2 ^ 32 - 1)))) }
+    requires fields { 38 ≤ length bytes.now }
+    requires words { (length bytes.now - 38) % 4 ≡ 0 }
+    requires near { lsn ≤ hsn + 1 }
+    requires far { hsn ≤ lsn + 255 }
+    requires most { hsn < 2 ^ 32 - 1 }
     ensures { result ≡ canonical_words lsn hsn (λ i. field_at bytes.now (38 + 4 * i)) }
 {
     let mut flags = [0u32; 9];

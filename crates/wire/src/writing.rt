@@ -102,7 +102,8 @@ fn body_length(body: &Body<&[u8]>) -> usize
 }
 
 fn write_payload(number: u32, payload: &[u8], out: &mut [u8])
-    requires { (length payload.now ≤ 512) × (22 + length payload.now ≤ length out.old) }
+    requires short { length payload.now ≤ 512 }
+    requires room { 22 + length payload.now ≤ length out.old }
     ensures { out.new ≡ overwrite 16 (payload_bytes number payload.now) out.old }
 {
     put_u32(out, 16, number);
@@ -128,7 +129,8 @@ fn write_heartbeat_response(term: u32, clock: u32, out: &mut [u8])
 }
 
 fn write_body(body: &Body<&[u8]>, out: &mut [u8])
-    requires { (body_in_range (plain_body body.now) ≡ true) × (16 + body_length (plain_body body.now) ≤ length out.old) }
+    requires ranged { body_in_range (plain_body body.now) ≡ true }
+    requires room { 16 + body_length (plain_body body.now) ≤ length out.old }
     ensures after { out.new ≡ overwrite 16 (body_bytes (plain_body body.now)) out.old }
     ensures typed { BodyFits (plain_body body.now) }
 {

@@ -13,7 +13,8 @@ use crate::packet::Hack;
 
 // The flag words, from the front of `out` on.
 fn write_words(hack: &Hack, out: &mut [u8])
-    requires { (hack_fields_in_range hack.now.term hack.now.serial hack.now.lsn hack.now.hsn ≡ true) × (4 * word_count hack.now.lsn hack.now.hsn ≤ length out.old) }
+    requires ranged { hack_fields_in_range hack.now.term hack.now.serial hack.now.lsn hack.now.hsn ≡ true }
+    requires room { 4 * word_count hack.now.lsn hack.now.hsn ≤ length out.old }
     ensures { out.new ≡ overwrite 0 (flat_map field_bytes (hack_words hack.now)) out.old }
 {
     // Copied first: the compiler cannot know that `out` is not where the HACK lies.
@@ -28,7 +29,8 @@ fn write_words(hack: &Hack, out: &mut [u8])
 
 // The fields, then the words: for these the buffer is lent from byte 38 on.
 pub(crate) fn write_hack(hack: &Hack, out: &mut [u8])
-    requires { (hack_fields_in_range hack.now.term hack.now.serial hack.now.lsn hack.now.hsn ≡ true) × (38 + 4 * word_count hack.now.lsn hack.now.hsn ≤ length out.old) }
+    requires ranged { hack_fields_in_range hack.now.term hack.now.serial hack.now.lsn hack.now.hsn ≡ true }
+    requires room { 38 + 4 * word_count hack.now.lsn hack.now.hsn ≤ length out.old }
     ensures after { out.new ≡ overwrite 16 (hack_bytes hack.now) out.old }
     ensures typed { HackFits hack.now }
 {

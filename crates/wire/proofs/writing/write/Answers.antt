@@ -35,7 +35,7 @@ write_header-requires c =
 pub write_body-requires : goal.write_body-requires
 write_body-requires c =
     let r = room_for (plain_packet c.args.packet.now) c.args.out.now c.in_ok-size.size c.in_ok-size.ensures in
-    (r.in_body, omega (arith, c.write_header.auto.out))
+    record { ranged = r.in_body; room = omega (arith, c.write_header.auto.out) }
 
 pub returns : goal.returns
 unfolding short_bytes
