@@ -1,5 +1,5 @@
 -- A packet of the parent that was read gives a start, and a checked node has a number. Assumes nothing.
-use Rattle.std.proofs.Common.{◌≡◌, ℕ, ◌≤◌, true, false, cond, ◌&&◌, eqb, leb, List, ◌∷◌, Some, None, Option, sym, refl, ap, ◌∙◌, inl, inr, arith}
+use Rattle.std.proofs.Common.{◌≡◌, ℕ, ◌≤◌, true, false, cond, ◌&&◌, eqb, leb, List, ◌∷◌, sym, refl, ap, ◌∙◌, inl, inr, arith}
 use Rattle.std.proofs.lemmas.Bool.{ltb-true, eqb-false, and_parts, both_ways, cases_Bool}
 use Rattle.wire.specs.Ranges.{at_least_one, body_in_range}
 use Rattle.wire.specs.declared.packet.Body.{Body}

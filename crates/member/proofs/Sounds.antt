@@ -1,5 +1,5 @@
 -- A sound member stays sound over every call, and is never refused for a value out of range. Assumes nothing.
-use Rattle.std.proofs.Common.{◌≡◌, ℕ, ◌+◌, ◌≤◌, Bool, true, false, cond, ◌&&◌, eqb, ltb, List, get_or, is_ok, Some, None, Ok, Err, Option, Result, sym, refl, subst, inl, inr, arith}
+use Rattle.std.proofs.Common.{◌≡◌, ℕ, ◌+◌, ◌≤◌, Bool, true, false, cond, eqb, List, get_or, is_ok, Some, None, Err, Option, sym, refl, subst, inl, inr, arith}
 use Rattle.std.proofs.lemmas.Bool.{lt-ltb, and_from, cases_Bool, eqb-false}
 use Rattle.answer.specs.declared.Refusal.{Refusal}
 use Rattle.answer.specs.declared.Refusal.TheVariants.{WrongStanding, Exhausted, HasLiveRow, NoLiveRow, OutOfRange}
@@ -16,7 +16,7 @@ use Rattle.member.specs.declared.types.Identity.{Identity}
 use Rattle.member.specs.declared.types.Standing.{Standing}
 use Rattle.member.specs.declared.types.Standing.TheVariants.{Outside, Waiting, Joined}
 use Rattle.member.specs.declared.types.Summary.{Summary}
-use Rattle.member.specs.Members.{last, upper_number, is_top, is_joined, gone, join_answer, join_after, leave_packet, leave_answer, leave_after, tick_after, goes_silent, report_of, report_answer, report_after, heard}
+use Rattle.member.specs.Members.{last, upper_number, is_top, gone, join_answer, join_after, leave_packet, leave_answer, leave_after, tick_after, goes_silent, report_of, report_answer, report_after, heard}
 use Rattle.member.specs.Parents.{StartFits}
 use Rattle.member.specs.Sounds.{Reportable, StartGiven, MemberSound}
 

@@ -1,7 +1,6 @@
 -- The joining rules over any kind of member, whose own part is seen as X. Assumes nothing.
-use Rattle.std.specs.Prelude.{ℕ, ◌+◌, ◌-◌, Bool, true, false, cond, ◌&&◌, List, [], Some, None, Ok, Err, Option, Result, ◌==◌, nat_lt}
+use Rattle.std.specs.Prelude.{ℕ, ◌+◌, ◌-◌, Bool, true, false, cond, ◌&&◌, List, [], Some, None, Err, Option, Result, ◌==◌, nat_lt}
 use Rattle.std.specs.declared.convert.Infallible.{Infallible}
-use Rattle.answer.specs.declared.Outcome.{Outcome}
 use Rattle.answer.specs.declared.Outcome.TheVariants.{Stale, Taken}
 use Rattle.answer.specs.declared.Refusal.{Refusal}
 use Rattle.answer.specs.declared.Refusal.TheVariants.{WrongStanding, Exhausted, HasLiveRow, NoLiveRow}
@@ -15,7 +14,6 @@ use Rattle.member.specs.declared.types.FromParent.{FromParent}
 use Rattle.member.specs.declared.types.FromParent.TheVariants.{JoinAck, JoinConfirm, Heartbeat, Eject, LeaveConfirm}
 use Rattle.member.specs.declared.types.Heard.{Heard}
 use Rattle.member.specs.declared.types.Identity.{Identity}
-use Rattle.member.specs.declared.types.Response.{Response}
 use Rattle.member.specs.declared.types.Standing.{Standing}
 use Rattle.member.specs.declared.types.Standing.TheVariants.{Outside, Waiting, Joined}
 use Rattle.member.specs.declared.types.Summary.{Summary}

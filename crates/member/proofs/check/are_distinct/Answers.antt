@@ -6,8 +6,8 @@ use Rattle.member.proofs.check.are_distinct.Goals as goal
 pub returns-then-number-eq0 : goal.returns-then-number-eq0
 returns-then-number-eq0 c = let more = at_drop_more distinct_numbers in search (rules, more)
 
-pub returns-then-stands-later : goal.returns-then-stands-later
-returns-then-stands-later c = let more = at_drop_more distinct_numbers in search (rules, more)
+pub returns-then-stands_later : goal.returns-then-stands_later
+returns-then-stands_later c = let more = at_drop_more distinct_numbers in search (rules, more)
 
 pub loop-i-preserved : goal.loop-i-preserved
 loop-i-preserved c = let more = at_drop_more distinct_numbers in search (rules, more)
