@@ -1,11 +1,10 @@
 -- A sound control node is made by a good check, and stays sound when it leaves, reports or looks at the clock. Assumes nothing.
-use Rattle.std.proofs.Common.{◌≡◌, ℕ, ◌+◌, ◌-◌, ◌≤◌, Bool, true, false, cond, ◌&&◌, eqb, ltb, leb, List, [], ◌∷◌, map, length, is_ok, Ok, Err, Result, sym, refl, ap, ◌∙◌, subst, inl, inr, arith}
+use Rattle.std.proofs.Common.{◌≡◌, ℕ, ◌-◌, ◌≤◌, Bool, true, false, cond, ◌&&◌, eqb, ltb, leb, List, [], ◌∷◌, map, length, is_ok, Err, sym, refl, ap, ◌∙◌, inl, inr, arith}
 use Rattle.std.proofs.lemmas.List.{length-map}
-use Rattle.std.proofs.lemmas.Bool.{leb-true, eqb-false, and_parts, both_ways, cond_both, cond-true, cases_Bool, or_parts, or_from, and_right}
-use Rattle.answer.specs.declared.Refusal.{Refusal}
+use Rattle.std.proofs.lemmas.Bool.{leb-true, and_parts, both_ways, cond_both, cases_Bool, or_parts, or_from}
 use Rattle.answer.specs.declared.Refusal.TheVariants.{WrongStanding, HasLiveRow}
 use Rattle.address.specs.Addresses.{written}
-use Rattle.address.specs.Sounds.{AddressSound, WithinRange}
+use Rattle.address.specs.Sounds.{WithinRange}
 use Rattle.rows.specs.declared.row.Row.{Row}
 use Rattle.rows.specs.Rows.{new_row, dead_row, ticked_row}
 use Rattle.rows.specs.Tables.{any_live}
@@ -13,17 +12,15 @@ use Rattle.member.specs.declared.member.Member.{Member}
 use Rattle.member.specs.declared.types.Identity.{Identity}
 use Rattle.member.specs.declared.types.Standing.{Standing}
 use Rattle.member.specs.declared.types.Standing.TheVariants.{Outside, Waiting, Joined}
-use Rattle.member.specs.declared.types.Upper.{Upper}
-use Rattle.member.specs.declared.types.Upper.TheVariants as upper
-use Rattle.member.specs.Checks.{good_making, distinct_numbers, has_number}
-use Rattle.member.specs.Members.{is_top, is_joined, upper_number, gone, goes_silent, join_answer, join_after, leave_packet, leave_answer, leave_after, report_answer, report_after}
+use Rattle.member.specs.Checks.{good_making, distinct_numbers}
+use Rattle.member.specs.Members.{is_top, is_joined, upper_number, gone, goes_silent, leave_packet, leave_answer, leave_after, report_answer, report_after}
 use Rattle.member.specs.Sounds.{KindSound, Termed, MemberSound}
 use Rattle.member.proofs.Given.{number_given}
 use Rattle.member.proofs.Sounds as any
 use Rattle.control.specs.Controls.{SeenRows, rows_entered, rows_exited, rows_summary, rows_settled, AllLive, RowSound, RowsSound, RowsIdle}
 use Rattle.control.specs.Nodes.{new_control, control_busy, rows_ticked, ticked}
 use Rattle.control.specs.Sounds.{ControlSound}
-use Rattle.control.specs.LiveRows.{none_live, all_dead}
+use Rattle.control.specs.LiveRows.{none_live}
 use Rattle.control.specs.Summaries.{rows_fit, rows_settle}
 use Rattle.control.specs.Keeping.{enters, exits, leaves}
 

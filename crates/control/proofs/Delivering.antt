@@ -1,17 +1,15 @@
 -- A sound control node stays sound over every deliver, and writes every reply that it owes. Assumes nothing.
-use Rattle.std.proofs.Common.{◌≡◌, ℕ, ◌+◌, ◌≤◌, Bool, true, false, cond, ◌&&◌, ltb, leb, List, get_or, is_some, Some, None, Ok, Err, Option, Result, sym, refl, ap, ◌∙◌, subst, arith, MatchOption}
-use Rattle.std.specs.declared.convert.Infallible.{Infallible}
-use Rattle.std.proofs.lemmas.Bool.{ltb-true, and_parts, and_from, both_ways, cond_both}
+use Rattle.std.proofs.Common.{◌≡◌, ℕ, true, false, List, get_or, is_some, Some, None, Ok, Err, Option, Result, refl}
+use Rattle.std.proofs.lemmas.Bool.{and_parts, both_ways, cond_both}
 use Rattle.answer.specs.declared.Refusal.{Refusal}
 use Rattle.wire.specs.Decoding.{decode}
-use Rattle.wire.specs.Plain.{map_body, no_payload}
 use Rattle.wire.specs.Ranges.{at_least_one, header_in_range, body_in_range, hack_fields_in_range, low_flag_clear, packet_in_range}
 use Rattle.wire.specs.declared.packet.Body.{Body}
 use Rattle.wire.specs.declared.packet.Body.TheVariants as body
 use Rattle.wire.specs.declared.packet.Message.{Message}
 use Rattle.wire.proofs.Decoded.{decoded_in_range}
-use Rattle.address.specs.Addresses.{address_answer, packet_of}
-use Rattle.address.specs.Deliveries.{Acceptance, known, past_address, admission, accepted, delivered}
+use Rattle.address.specs.Addresses.{address_answer}
+use Rattle.address.specs.Deliveries.{admission, accepted, delivered}
 use Rattle.address.proofs.Replies.{WhereSome, let_in, ReplyGood, reply_in_range}
 use Rattle.rows.specs.Tables.{slot_of}
 use Rattle.member.specs.declared.member.Member.{Member}
@@ -22,10 +20,9 @@ use Rattle.member.specs.Parents.{is_parent, parent_packet}
 use Rattle.member.specs.Sounds.{StartGiven}
 use Rattle.member.proofs.Given.{positive, parents_given}
 use Rattle.control.specs.declared.taking.Incoming.{Incoming}
-use Rattle.control.specs.declared.taking.Incoming.TheVariants.{Parent, Child}
 use Rattle.control.specs.Controls.{SeenRows}
-use Rattle.control.specs.Incomings.{child_packet, as_parents, as_childs, taken_from, takes}
-use Rattle.control.specs.Nodes.{accepts, deliver_after}
+use Rattle.control.specs.Incomings.{child_packet, as_parents, as_childs, takes}
+use Rattle.control.specs.Nodes.{accepts}
 use Rattle.control.specs.Sounds.{ControlSound, IncomingFits, ReplyInRange}
 use Rattle.control.specs.Decisions.{ChildGood}
 use Rattle.control.specs.Keeping.{IncomingGood, accepts_keeps, accepts_replies}

@@ -1,10 +1,10 @@
 -- A packet of a child changes that child's row at most. Assumes nothing.
-use Rattle.std.proofs.Common.{◌≡◌, ℕ, suc, ◌+◌, ◌-◌, ◌<◌, ◌≤◌, Bool, true, false, cond, eqb, ◌≢◌, List, [], ◌∷◌, length, get_or, set, is_some, Some, None, Ok, Err, Option, Result, sym, refl, ap, ◌∙◌, subst, inl, inr, arith, get_or-set_other}
+use Rattle.std.proofs.Common.{◌≡◌, ℕ, suc, ◌+◌, ◌-◌, ◌≤◌, Bool, false, cond, eqb, ◌≢◌, List, [], ◌∷◌, set, is_some, Some, None, Ok, Err, Option, Result, sym, refl, ap, ◌∙◌, subst, inl, inr, arith, get_or-set_other}
 use Rattle.std.proofs.lemmas.Bool.{cond_both, cond-false, eqb-true, cases_Bool}
 use Rattle.answer.specs.declared.Refusal.{Refusal}
 use Rattle.wire.specs.declared.packet.Message.{Message}
 use Rattle.address.specs.Addresses.{address_answer}
-use Rattle.address.specs.Deliveries.{known, past_address, admission, accepted, delivered}
+use Rattle.address.specs.Deliveries.{past_address, accepted}
 use Rattle.rows.specs.declared.row.Row.{Row}
 use Rattle.rows.specs.declared.row.FromChild.{FromChild}
 use Rattle.rows.specs.Rows.{new_row, decision}
@@ -13,7 +13,6 @@ use Rattle.member.specs.declared.member.Member.{Member}
 use Rattle.member.specs.Members.{is_joined}
 use Rattle.member.specs.Parents.{is_parent}
 use Rattle.control.specs.declared.taking.Incoming.{Incoming}
-use Rattle.control.specs.declared.taking.Incoming.TheVariants.{Parent, Child}
 use Rattle.control.specs.Controls.{SeenRows}
 use Rattle.control.specs.Incomings.{child_packet, as_childs, takes}
 use Rattle.control.specs.Nodes.{with_rows, heard_from_child, accepts, deliver_after}

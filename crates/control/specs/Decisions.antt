@@ -1,10 +1,9 @@
 -- What a child's packet makes of a sound row is sound, and the reply to it is within range. Assumes nothing.
-use Rattle.std.specs.Prelude.{◌≡◌, ℕ, zero, suc, ◌+◌, ◌-◌, ◌<◌, ◌≤◌, Bool, true, false, cond, ◌&&◌, ◌||◌, List, [], ◌∷◌, length, get_or, replicate, Some, None, Option, ◌==◌, ◌≢◌, nat_le, nat_lt, slice_index, slice_index_or, slice_set, refl}
-use Rattle.std.proofs.Common.{sym, ap, subst, ◌∙◌, inl, inr, arith}
-use Rattle.std.proofs.lemmas.Bool.{lt-ltb, and_parts, and_from, or_left, or_parts, or_from, both_ways, cond_both, cases_Bool, leb-true}
-use Rattle.wire.specs.declared.packet.Hack.{Hack}
-use Rattle.wire.specs.Ranges.{at_least_one, hack_fields_in_range, low_flag_clear, hack_in_range}
-use Rattle.wire.proofs.Lows.{Ranged, ranged_from, ranged_to}
+use Rattle.std.specs.Prelude.{◌≡◌, ℕ, zero, suc, ◌-◌, ◌<◌, ◌≤◌, true, false, ◌&&◌, List, [], ◌∷◌, length, get_or, Some, None, Option, ◌==◌, ◌≢◌, nat_le, nat_lt, slice_index, slice_index_or, slice_set, refl}
+use Rattle.std.proofs.Common.{arith}
+use Rattle.std.proofs.lemmas.Bool.{lt-ltb, and_parts, or_left, or_parts, or_from, both_ways, cond_both, leb-true}
+use Rattle.wire.specs.Ranges.{hack_fields_in_range, low_flag_clear}
+use Rattle.wire.proofs.Lows.{ranged_to}
 use Rattle.rows.specs.declared.row.Row.{Row}
 use Rattle.rows.specs.declared.row.FromChild.{FromChild}
 use Rattle.rows.specs.declared.row.FromChild.TheVariants.{JoinStream, LeaveStream, Hack as HackOf, HeartbeatResponse}
@@ -12,7 +11,7 @@ use Rattle.rows.specs.declared.row.Reply.{Reply}
 use Rattle.rows.specs.declared.row.Reply.TheVariants as reply
 use Rattle.rows.specs.declared.row.Decision.{Decision}
 use Rattle.rows.specs.declared.row.Parent.{Parent}
-use Rattle.rows.specs.Rows.{term_of, low_of, high_of, live_at, decision, admitted_row}
+use Rattle.rows.specs.Rows.{term_of, low_of, live_at, decision, admitted_row}
 use Rattle.rows.specs.Tables.{any_live}
 use Rattle.control.specs.Controls.{AllLive, RowSound}
 

@@ -1,5 +1,5 @@
 -- A report never lowers the floor of a node that no live row is behind, and leaves no live row behind it. Assumes nothing.
-use Rattle.std.specs.Prelude.{◌≡◌, ℕ, ◌+◌, ◌≤◌, Bool, true, false, cond, List, [], ◌∷◌, Some, None, Option, nat_le, refl}
+use Rattle.std.specs.Prelude.{◌≡◌, ℕ, ◌+◌, ◌≤◌, true, cond, List, [], ◌∷◌, Some, None, Option, nat_le}
 use Rattle.std.proofs.Common.{arith}
 use Rattle.std.proofs.lemmas.Bool.{cond_both, leb-true, leb-false, both_ways}
 use Rattle.rows.specs.declared.row.Row.{Row}

@@ -1,40 +1,30 @@
 -- A sound control node stays sound over every packet, and its replies are within range. Assumes nothing.
-use Rattle.std.specs.Prelude.{◌≡◌, ℕ, ◌+◌, ◌<◌, ◌≤◌, min, Bool, true, false, cond, ◌&&◌, List, map, length, is_some, Some, None, Option, nat_le, slice_set, refl}
-use Rattle.std.proofs.Common.{sym, ap, subst, ◌∙◌, inl, inr, arith, length-set}
-use Rattle.std.specs.declared.convert.Infallible.{Infallible}
+use Rattle.std.specs.Prelude.{◌≡◌, ℕ, ◌<◌, ◌≤◌, min, true, false, length, Some, None, Option, nat_le, slice_set, refl}
+use Rattle.std.proofs.Common.{sym, subst, arith, length-set}
 use Rattle.std.proofs.lemmas.List.{length-map}
-use Rattle.std.proofs.lemmas.Bool.{lt-ltb, le-leb, and_parts, and_from, both_ways, cond_both}
-use Rattle.wire.specs.Plain.{map_body, no_payload}
-use Rattle.wire.specs.Ranges.{at_least_one, body_in_range, hack_fields_in_range, low_flag_clear}
-use Rattle.wire.specs.declared.packet.Body.{Body}
-use Rattle.wire.specs.declared.packet.Body.TheVariants as body
+use Rattle.std.proofs.lemmas.Bool.{lt-ltb, le-leb, and_from, both_ways}
+use Rattle.wire.specs.Ranges.{at_least_one}
 use Rattle.address.proofs.Replies.{ReplyGood}
 use Rattle.rows.specs.declared.row.Row.{Row}
 use Rattle.rows.specs.declared.row.FromChild.{FromChild}
 use Rattle.rows.specs.declared.row.FromChild.TheVariants as child
-use Rattle.rows.specs.declared.row.Reply.{Reply}
-use Rattle.rows.specs.declared.row.Reply.TheVariants as reply
-use Rattle.rows.specs.Rows.{new_row, dead_row, decision}
+use Rattle.rows.specs.Rows.{new_row, decision}
 use Rattle.rows.specs.Tables.{slot_of, row_at, decided, rows_after}
 use Rattle.rows.proofs.Slots.{slot_inside}
 use Rattle.member.specs.declared.member.Member.{Member}
 use Rattle.member.specs.declared.types.FromParent.{FromParent}
-use Rattle.member.specs.declared.types.FromParent.TheVariants as parent
-use Rattle.member.specs.declared.types.Response.{Response}
 use Rattle.member.specs.declared.types.Standing.{Standing}
 use Rattle.member.specs.declared.types.Standing.TheVariants.{Outside, Waiting, Joined}
 use Rattle.member.specs.declared.types.Upper.{Upper}
-use Rattle.member.specs.declared.types.Upper.TheVariants as upper
 use Rattle.member.specs.Members.{is_top, is_joined, heard}
-use Rattle.member.specs.Parents.{is_parent, parent_packet, response_of, StartFits}
-use Rattle.member.specs.Sounds.{KindSound, Termed, StartGiven, MemberSound}
+use Rattle.member.specs.Parents.{response_of, StartFits}
+use Rattle.member.specs.Sounds.{KindSound, Termed, StartGiven}
 use Rattle.member.proofs.Sounds.{heard_keeps}
 use Rattle.member.proofs.Hearing.{heard_ways, heard_tells}
 use Rattle.control.specs.declared.taking.Incoming.{Incoming}
 use Rattle.control.specs.declared.taking.Incoming.TheVariants.{Parent, Child}
 use Rattle.control.specs.Controls.{SeenRows, rows_entered, rows_exited, rows_summary, rows_settled, RowSound, RowsSound, RowsIdle}
-use Rattle.control.specs.Incomings.{child_packet, as_parents, as_childs, taken_from}
-use Rattle.control.specs.Nodes.{with_rows, term_from, reply_body, reply_of, heard_from_child, accepts}
+use Rattle.control.specs.Nodes.{with_rows, term_from, reply_of, heard_from_child, accepts}
 use Rattle.control.specs.Sounds.{ControlSound, IncomingFits}
 use Rattle.control.specs.LiveRows.{none_live, all_dead}
 use Rattle.control.specs.Summaries.{rows_fit, rows_settle}

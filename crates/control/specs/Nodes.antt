@@ -1,5 +1,5 @@
 -- A control node, or the top, by its rules over bytes. Assumes nothing.
-use Rattle.std.specs.Prelude.{ℕ, min, Bool, cond, List, map, Some, None, Ok, Err, Option, Result}
+use Rattle.std.specs.Prelude.{ℕ, min, Bool, cond, List, map, Some, None, Err, Option, Result}
 use Rattle.std.specs.declared.convert.Infallible.{Infallible}
 use Rattle.answer.specs.declared.Delivered.{Delivered}
 use Rattle.answer.specs.declared.Refusal.{Refusal}

@@ -2,7 +2,7 @@
 use Rattle.std.specs.Prelude.{◌≡◌, ℕ, ◌+◌, ◌-◌, ◌<◌, ◌≤◌, min, false, List, Some, None, Option, refl}
 use Rattle.std.proofs.Common.{sym, ap, subst, ◌∙◌, arith}
 use Rattle.wire.specs.Flags.{held_words}
-use Rattle.wire.proofs.Lows.{Ranged, ranged_from, ranged_to, low_not_held, words_clear}
+use Rattle.wire.proofs.Lows.{ranged_from, ranged_to, low_not_held, words_clear}
 use Rattle.rows.specs.declared.row.Row.{Row}
 use Rattle.rows.specs.Rows.{low_of, high_of, row_holds}
 use Rattle.rows.specs.Tables.{lowest_row, highest_high, all_hold}

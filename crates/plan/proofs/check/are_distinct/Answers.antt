@@ -7,8 +7,8 @@ use Rattle.plan.proofs.check.are_distinct.Goals as goal
 pub returns-then-number-eq0 : goal.returns-then-number-eq0
 returns-then-number-eq0 g c = let more = left_more (λ ps. distinct_numbers (numbers_of ps)) c.args.members.now c.loop-i.i c.index-members-i.result c.loop-i-test.true c.index-members-i.is in search (rules, more)
 
-pub returns-then-stands-later : goal.returns-then-stands-later
-returns-then-stands-later g c = let more = left_more (λ ps. distinct_numbers (numbers_of ps)) c.args.members.now c.loop-i.i c.index-members-i.result c.loop-i-test.true c.index-members-i.is in search (rules, more)
+pub returns-then-stands_later : goal.returns-then-stands_later
+returns-then-stands_later g c = let more = left_more (λ ps. distinct_numbers (numbers_of ps)) c.args.members.now c.loop-i.i c.index-members-i.result c.loop-i-test.true c.index-members-i.is in search (rules, more)
 
 pub loop-i-preserved : goal.loop-i-preserved
 loop-i-preserved g c = let more = left_more (λ ps. distinct_numbers (numbers_of ps)) c.args.members.now c.loop-i.i c.index-members-i.result c.loop-i-test.true c.index-members-i.is in search (rules, more)

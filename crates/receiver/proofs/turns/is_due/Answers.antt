@@ -8,4 +8,4 @@ returns c =
     let h = c.args.interval in
     let slot = c.args.slot in
     let n = c.args.number in
-    ap (ltb (since h (slot % h) n)) c.saturating-sub.ensures ∙ due_is h slot c.args.high n c.requires
+    ap (ltb (since h (slot % h) n)) c.saturating_sub.ensures ∙ due_is h slot c.args.high n c.requires

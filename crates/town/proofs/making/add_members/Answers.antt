@@ -15,8 +15,8 @@ loop-place-preserved g c =
     let seen = place_seen g.A.Store.meaning in
     let nodes = vec_items c.loop-place.nodes in
     let left = into_iter_items c.next.new.self in
-    ap (λ l. map f l ++ map makes (map seen left)) c.in-ok-push.ensures.items
-    ∙ pushed f nodes c.in-ok-member.field-0 (makes (seen c.in-Some.place)) (map makes (map seen left)) c.in-ok-member.ensures
+    ap (λ l. map f l ++ map makes (map seen left)) c.in_ok-push.ensures.items
+    ∙ pushed f nodes c.in_ok-member.field-0 (makes (seen c.in-Some.place)) (map makes (map seen left)) c.in_ok-member.ensures
     ∙ ap (λ l. map f nodes ++ map makes (map seen l)) (sym c.in-Some.ensures.cases.0)
     ∙ c.loop-place.invariant
 
@@ -27,8 +27,8 @@ returns g c =
     let seen = place_seen g.A.Store.meaning in
     let nodes = vec_items c.loop-place.nodes in
     let rest = c.loop-place.rest in
-    let none = none_left (into_iter_items rest) (sym rest.rest.ok.0 ∙ c.in-default.ensures.cases.0) in
+    let none = none_left (into_iter_items rest) (sym rest.rest.ok.0 ∙ c.in_default.ensures.cases.0) in
     sym (append-nil (map f nodes))
     ∙ ap (λ l. map f nodes ++ map makes (map seen l)) (sym none)
     ∙ c.loop-place.invariant
-    ∙ ap (λ l. map f (vec_items c.args.nodes.now) ++ map makes (map seen l)) c.into-iter-rest.ensures.rest
+    ∙ ap (λ l. map f (vec_items c.args.nodes.now) ++ map makes (map seen l)) c.into_iter-rest.ensures.rest

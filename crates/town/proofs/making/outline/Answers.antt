@@ -9,9 +9,9 @@ loop-place-preserved g c =
     let i = c.loop-place.place-index in
     let item = c.place-item.result in
     let more = map_more bare xs i item c.loop-place-test.true in
-    c.in-ok-push.ensures.items
-    ∙ ap (λ (l : List Bare). l ++ (c.bare-place.result ∷ [])) c.loop-place.invariant
-    ∙ ap (λ (b : Bare). map bare (take i xs) ++ (b ∷ [])) (c.bare-place.ensures ∙ ap bare c.place-item.is)
+    c.in_ok-push.ensures.items
+    ∙ ap (λ (l : List Bare). l ++ (c.bare_place.result ∷ [])) c.loop-place.invariant
+    ∙ ap (λ (b : Bare). map bare (take i xs) ++ (b ∷ [])) (c.bare_place.ensures ∙ ap bare c.place-item.is)
     ∙ sym more
 
 pub returns : goal.returns

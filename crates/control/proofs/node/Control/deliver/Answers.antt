@@ -11,13 +11,13 @@ use Rattle.control.proofs.Others.{same_row, deliver_others}
 use Rattle.control.proofs.node.Control.deliver.Goals as goal
 
 -- let in, but with no room for a reply
-pub returns-then-reply-lt-REPLY-ROOM : goal.returns-then-reply-lt-REPLY-ROOM
-returns-then-reply-lt-REPLY-ROOM c =
+pub returns-then-reply-lt-REPLY_ROOM : goal.returns-then-reply-lt-REPLY_ROOM
+returns-then-reply-lt-REPLY_ROOM c =
     let m = control_seen c.args.self.now in
     let bytes = c.args.bytes.now in
-    let p = plain_packet c.in-ok-packet.packet in
+    let p = plain_packet c.in_ok-packet.packet in
     record {
-      answer = short_answer m.identity.address (takes m) (accepts c.args.clock m) m (decode bytes) p c.in-ok-packet.ensures.is c.in-ok-incoming.incoming c.in-ok-incoming.ensures.is c.args.reply.now (omega (arith, c.if-reply-lt-REPLY-ROOM.true));
+      answer = short_answer m.identity.address (takes m) (accepts c.args.clock m) m (decode bytes) p c.in_ok-packet.ensures.is c.in_ok-incoming.incoming c.in_ok-incoming.ensures.is c.args.reply.now (omega (arith, c.if-reply-lt-REPLY_ROOM.true));
       after = refl;
       buffer = refl;
       keeps = λ sound. sound;
@@ -33,17 +33,17 @@ returns c =
     let acts = accepts c.args.clock m in
     let bytes = c.args.bytes.now in
     let out = c.args.reply.now in
-    let p = plain_packet c.in-ok-packet.packet in
-    let read = c.in-ok-packet.ensures.is in
-    let i = c.in-ok-incoming.incoming in
-    let let_in = c.in-ok-incoming.ensures in
+    let p = plain_packet c.in_ok-packet.packet in
+    let read = c.in_ok-packet.ensures.is in
+    let i = c.in_ok-incoming.incoming in
+    let let_in = c.in_ok-incoming.ensures in
     let told = c.accept-outcome.result in
     let did = c.accept-outcome.ensures in
     let after = after_is a (takes m) acts m (decode bytes) p read i let_in.is (control_seen c.accept-outcome.new.self) did.after in
     record {
-      answer = answer_is a (takes m) acts m (decode bytes) p read i let_in.is out told c.write-reply-len.result (omega (arith, c.if-reply-lt-REPLY-ROOM.false)) did.answer c.write-reply-len.ensures.answer;
+      answer = answer_is a (takes m) acts m (decode bytes) p read i let_in.is out told c.write_reply-len.result (omega (arith, c.if-reply-lt-REPLY_ROOM.false)) did.answer c.write_reply-len.ensures.answer;
       after = after;
-      buffer = buffer_is a (takes m) acts m (decode bytes) p read i let_in.is out c.write-reply-len.new.out told did.answer c.write-reply-len.ensures.buffer;
+      buffer = buffer_is a (takes m) acts m (decode bytes) p read i let_in.is out c.write_reply-len.new.out told did.answer c.write_reply-len.ensures.buffer;
       keeps = λ sound. subst ControlSound (sym did.after) (deliver_keeps c.args.clock m p i (decoded_in_range bytes p (sym read)) (sym let_in.is) let_in.fits sound);
       one_row = λ q is below. subst (OneRowChanged q.writer m) (sym (after ∙ ap (deliver_after c.args.clock true m) is)) (deliver_others c.args.clock true m q below);
       replies = replies_in_range c.args.clock m bytes;

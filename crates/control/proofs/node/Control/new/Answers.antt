@@ -6,7 +6,7 @@ use Rattle.control.proofs.node.Control.new.Goals as goal
 
 pub returns : goal.returns
 returns c = record {
-  is = c.new-member.ensures;
+  is = c.new_member.ensures;
   sound = λ most rate children good rows.
-      subst ControlSound (sym (c.new-member.ensures ∙ ap (new_control c.args.identity) rows)) (new_sound c.args.identity most rate children good);
+      subst ControlSound (sym (c.new_member.ensures ∙ ap (new_control c.args.identity) rows)) (new_sound c.args.identity most rate children good);
 }

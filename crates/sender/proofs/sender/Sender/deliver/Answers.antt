@@ -4,14 +4,14 @@ use Rattle.sender.specs.Senders.{sender_seen}
 use Rattle.sender.proofs.Reporting.{Came, short_answer, long_answer, long_after, long_buffer, wants_missing, report_keeps}
 use Rattle.sender.proofs.sender.Sender.deliver.Goals as goal
 
-pub returns-then-reply-lt-REPLY-ROOM : goal.returns-then-reply-lt-REPLY-ROOM
-returns-then-reply-lt-REPLY-ROOM g c =
+pub returns-then-reply-lt-REPLY_ROOM : goal.returns-then-reply-lt-REPLY_ROOM
+returns-then-reply-lt-REPLY_ROOM g c =
     let s = sender_seen g.Q.Store.meaning g.P.Phase.ended c.args.self.now in
     let bytes = c.args.bytes.now in
-    let p = plain_packet c.in-ok-packet.packet in
-    let came : Came s bytes p c.in-Some.hack = record { read = c.in-ok-packet.ensures.is; address = c.in-ok-check.ensures; report = c.in-Some.ensures } in
+    let p = plain_packet c.in_ok-packet.packet in
+    let came : Came s bytes p c.in-Some.hack = record { read = c.in_ok-packet.ensures.is; address = c.in_ok-check.ensures; report = c.in-Some.ensures } in
     record {
-      answer = short_answer s bytes p c.in-Some.hack came c.args.reply.now c.if-reply-lt-REPLY-ROOM.true;
+      answer = short_answer s bytes p c.in-Some.hack came c.args.reply.now c.if-reply-lt-REPLY_ROOM.true;
       after = refl;
       buffer = refl;
       wants = λ q h reads carries done n. absurd (search rules);
@@ -23,14 +23,14 @@ returns g c =
     let s = sender_seen g.Q.Store.meaning g.P.Phase.ended c.args.self.now in
     let bytes = c.args.bytes.now in
     let out = c.args.reply.now in
-    let p = plain_packet c.in-ok-packet.packet in
+    let p = plain_packet c.in_ok-packet.packet in
     let h = c.in-Some.hack in
-    let came : Came s bytes p h = record { read = c.in-ok-packet.ensures.is; address = c.in-ok-check.ensures; report = c.in-Some.ensures } in
+    let came : Came s bytes p h = record { read = c.in_ok-packet.ensures.is; address = c.in_ok-check.ensures; report = c.in-Some.ensures } in
     let after = sender_seen g.Q.Store.meaning g.P.Phase.ended c.accept.new.self in
     let is = c.accept.ensures.after in
     let outcome = c.accept.ensures.answer in
     record {
-      answer = long_answer s bytes p h came out c.accept.result c.if-reply-lt-REPLY-ROOM.false outcome;
+      answer = long_answer s bytes p h came out c.accept.result c.if-reply-lt-REPLY_ROOM.false outcome;
       after = long_after s bytes p h came after is;
       buffer = long_buffer s bytes p h came out;
       wants = wants_missing s bytes p h came after c.accept.result outcome is;

@@ -21,5 +21,5 @@ loop-i-preserved c =
       simp length-set long,
       below_more _ _
           (λ k l. let ne : k ≢ i = omega arith in rw get_or-set_other (c.loop-i.invariant.1 k l))
-          (rw get_or-set_same c.missing-word.ensures),
+          (rw get_or-set_same c.missing_word.ensures),
     )

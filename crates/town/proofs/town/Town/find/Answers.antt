@@ -6,18 +6,18 @@ use Rattle.town.proofs.Keys.{found}
 use Rattle.town.proofs.Changes.{search_more, search_all}
 use Rattle.town.proofs.town.Town.find.Goals as goal
 
-pub returns-then-number-number-at : goal.returns-then-number-number-at
-returns-then-number-number-at g c =
+pub returns-then-number-number_at : goal.returns-then-number-number_at
+returns-then-number-number_at g c =
     let nodes = c.args.self.now.nodes in
     let lt : c.loop-k.k < vec_len nodes = omega (arith, c.len-k-end.ensures, c.loop-k-test.true) in
-    let more = search_more (node_seen g.A.Store.meaning) (vec_items nodes) (vec_len nodes) c.args.number c.loop-k.k true nodes.ok.0 lt (eq-eqb _ _ (c.if-number-number-at.true ∙ c.number-at.ensures)) in
+    let more = search_more (node_seen g.A.Store.meaning) (vec_items nodes) (vec_len nodes) c.args.number c.loop-k.k true nodes.ok.0 lt (eq-eqb _ _ (c.if-number-number_at.true ∙ c.number_at.ensures)) in
     record { found = found number_of nobody _ _ (Some c.loop-k.k) (sym more ∙ c.loop-k.invariant); inside = lt }
 
 pub loop-k-preserved : goal.loop-k-preserved
 loop-k-preserved g c =
     let nodes = c.args.self.now.nodes in
     let lt : c.loop-k.k < vec_len nodes = omega (arith, c.len-k-end.ensures, c.loop-k-test.true) in
-    sym (search_more (node_seen g.A.Store.meaning) (vec_items nodes) (vec_len nodes) c.args.number c.loop-k.k false nodes.ok.0 lt (ne_eqb _ _ (λ e. c.if-number-number-at.false (e ∙ sym c.number-at.ensures))))
+    sym (search_more (node_seen g.A.Store.meaning) (vec_items nodes) (vec_len nodes) c.args.number c.loop-k.k false nodes.ok.0 lt (ne_eqb _ _ (λ e. c.if-number-number_at.false (e ∙ sym c.number_at.ensures))))
     ∙ c.loop-k.invariant
 
 pub returns : goal.returns

@@ -6,4 +6,4 @@ use Rattle.town.proofs.Changes.{seen_at}
 use Rattle.town.proofs.town.Town.has_live_at.Goals as goal
 
 pub returns : goal.returns
-returns g c = c.has-live.ensures ∙ ap (λ (n : SeenNode). has_live_row c.args.child c.args.term (rows_of n)) (sym (seen_at (node_seen g.A.Store.meaning) _ _ _ _ nobody c.args.self.now.nodes.ok.0 c.requires c.index.ensures))
+returns g c = c.has_live.ensures ∙ ap (λ (n : SeenNode). has_live_row c.args.child c.args.term (rows_of n)) (sym (seen_at (node_seen g.A.Store.meaning) _ _ _ _ nobody c.args.self.now.nodes.ok.0 c.requires c.index.ensures))

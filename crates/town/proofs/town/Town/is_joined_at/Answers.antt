@@ -6,4 +6,4 @@ use Rattle.town.proofs.Changes.{seen_at}
 use Rattle.town.proofs.town.Town.is_joined_at.Goals as goal
 
 pub returns : goal.returns
-returns g c = c.is-joined.ensures ∙ ap is_joined c.standing.ensures ∙ ap (λ (n : SeenNode). is_joined (standing_of n)) (sym (seen_at (node_seen g.A.Store.meaning) _ _ _ _ nobody c.args.self.now.nodes.ok.0 c.requires c.index.ensures))
+returns g c = c.is_joined.ensures ∙ ap is_joined c.standing.ensures ∙ ap (λ (n : SeenNode). is_joined (standing_of n)) (sym (seen_at (node_seen g.A.Store.meaning) _ _ _ _ nobody c.args.self.now.nodes.ok.0 c.requires c.index.ensures))

@@ -9,7 +9,7 @@ returns-in-Some g c =
     let nodes = c.args.self.now.nodes in
     let f = c.in-Some.ensures in
     record {
-      answer = answer_is (node_seen g.A.Store.meaning) (reports c.args.out.now) (sender_seen g.Q.Store.meaning g.P.Phase.ended c.args.self.now.sender) (vec_items nodes) (vec_len nodes) c.args.number c.in-Some.k _ _ nodes.ok.0 f.inside c.index-mut.ensures.value f.found _ c.report.ensures.answer;
-      after = state_is (node_seen g.A.Store.meaning) (reports c.args.out.now) (sender_seen g.Q.Store.meaning g.P.Phase.ended c.args.self.now.sender) (vec_items nodes) (vec_len nodes) c.args.number c.in-Some.k _ _ nodes.ok.0 f.inside c.index-mut.ensures.value f.found _ c.report.ensures.after;
-      buffer = buffer_is (node_seen g.A.Store.meaning) (reports c.args.out.now) (sender_seen g.Q.Store.meaning g.P.Phase.ended c.args.self.now.sender) (vec_items nodes) (vec_len nodes) c.args.number c.in-Some.k _ _ nodes.ok.0 f.inside c.index-mut.ensures.value f.found _ c.report.ensures.buffer;
+      answer = answer_is (node_seen g.A.Store.meaning) (reports c.args.out.now) (sender_seen g.Q.Store.meaning g.P.Phase.ended c.args.self.now.sender) (vec_items nodes) (vec_len nodes) c.args.number c.in-Some.k _ _ nodes.ok.0 f.inside c.index_mut.ensures.value f.found _ c.report.ensures.answer;
+      after = state_is (node_seen g.A.Store.meaning) (reports c.args.out.now) (sender_seen g.Q.Store.meaning g.P.Phase.ended c.args.self.now.sender) (vec_items nodes) (vec_len nodes) c.args.number c.in-Some.k _ _ nodes.ok.0 f.inside c.index_mut.ensures.value f.found _ c.report.ensures.after;
+      buffer = buffer_is (node_seen g.A.Store.meaning) (reports c.args.out.now) (sender_seen g.Q.Store.meaning g.P.Phase.ended c.args.self.now.sender) (vec_items nodes) (vec_len nodes) c.args.number c.in-Some.k _ _ nodes.ok.0 f.inside c.index_mut.ensures.value f.found _ c.report.ensures.buffer;
     }
