@@ -1,5 +1,5 @@
 -- What each operation of a store answers, and what the store means and the buffer holds afterwards. Assumes nothing.
-use Rattle.std.specs.Prelude.{ℕ, ◌+◌, Bool, cond, List, ◌++◌, length, drop, Ok, Err, Result, nat_le, nat_lt}
+use Rattle.std.specs.Prelude.{ℕ, Bool, cond, List, ◌++◌, length, drop, Ok, Err, Result, nat_le, nat_lt}
 use Rattle.answer.specs.declared.Refusal.{Refusal}
 use Rattle.answer.specs.declared.Refusal.TheVariants.{BadNumber, BadLength, Held, Full, NotHeld, ShortBuffer}
 use Rattle.store.specs.Pairs.{pair, Meaning, holds, payload_of, add, above, good_number, good_length}

@@ -6,9 +6,9 @@ use super::Store;
 
 // The lowest number from `start` on that is not held.
 pub fn lowest_missing<S: Store>(store: &mut S, start: u32) -> u32
-    ensures lowest { Lowest start (meaning store.old).pairs result }
-    ensures value { result ≡ lowest_missing start (meaning store.old).pairs }
-    ensures same { meaning store.new ≡ meaning store.old }
+    ensures lowest { Lowest start (S.meaning store.old).pairs result }
+    ensures value { result ≡ lowest_missing start (S.meaning store.old).pairs }
+    ensures same { S.meaning store.new ≡ S.meaning store.old }
 {
     let mut low = start;
     while store.has(low) {

@@ -147,6 +147,7 @@ mod tests {
     // Bytes beyond the payload, and all of them on a refusal, stay as they were.
     fn copy<S: Store>(
         rt: &impl Abort,
+        kind: &str,
         store: &mut S,
         number: u32,
         room: usize,
@@ -156,24 +157,29 @@ mod tests {
         let front = answer.unwrap_or(0);
         for (i, byte) in buffer.iter().enumerate() {
             let want = if i < front { byte_of(number, i) } else { 255 };
-            assert_eq!(rt; *byte, want);
+            assert_eq!(rt; *byte, want, "{kind}");
         }
         answer
     }
 
-    fn take_step<S: Store>(rt: &impl Abort, store: &mut S, step: Step) -> Result<(), Fail> {
+    fn take_step<S: Store>(
+        rt: &impl Abort,
+        kind: &str,
+        store: &mut S,
+        step: Step,
+    ) -> Result<(), Fail> {
         match step {
             Step::Put(number, len, want) => {
-                assert_eq!(rt; put(store, number, len), want);
+                assert_eq!(rt; put(store, number, len), want, "{kind}");
                 Ok(())
             },
             Step::Copy(number, room, want) => {
-                let answer = copy(rt, store, number, room);
-                assert_eq!(rt; answer, want);
+                let answer = copy(rt, kind, store, number, room);
+                assert_eq!(rt; answer, want, "{kind}");
                 Ok(())
             }
             Step::Has(number, want) => {
-                assert_eq!(rt; store.has(number), want);
+                assert_eq!(rt; store.has(number), want, "{kind}");
                 Ok(())
             },
             Step::Forget(number) => {
@@ -183,22 +189,28 @@ mod tests {
         }
     }
 
-    fn take_steps<S: Store>(rt: &impl Abort, store: &mut S, steps: &[Step]) -> Result<(), Fail> {
+    fn take_steps<S: Store>(
+        rt: &impl Abort,
+        kind: &str,
+        store: &mut S,
+        steps: &[Step],
+    ) -> Result<(), Fail> {
         for step in steps {
-            take_step(rt, store, *step)?;
+            take_step(rt, kind, store, *step)?;
         }
         Ok(())
     }
 
     fn play<S: MadeOver + Drop>(
         rt: &impl Abort,
+        kind: &str,
         heap: Global,
         bytes: usize,
         steps: &[Step],
     ) -> Result<(), Fail> {
         let mut store = S::new(vec![in heap; 170u8; bytes]?);
-        take_steps(rt, &mut store, steps)?;
-        assert_eq!(rt; store.into_memory().len(), bytes);
+        take_steps(rt, kind, &mut store, steps)?;
+        assert_eq!(rt; store.into_memory().len(), bytes, "{kind}");
         Ok(())
     }
 
@@ -207,8 +219,8 @@ mod tests {
         bytes: usize,
         steps: &[Step],
     ) -> Result<(), Fail> {
-        play::<Journal>(rt, rt.alloc(), bytes, steps).note("journal")?;
-        play::<SlotStore>(rt, rt.alloc(), bytes, steps).note("slot store")
+        play::<Journal>(rt, "journal", rt.alloc(), bytes, steps)?;
+        play::<SlotStore>(rt, "slot store", rt.alloc(), bytes, steps)
     }
 
     #[test]
@@ -226,9 +238,9 @@ mod tests {
     #[test]
     fn a_card_for_one(rt: HostRuntime) -> Result<(), Fail> {
         let mut card = Card::new(vec![in rt.alloc(); 170u8; 512]?);
-        take_steps(&rt, &mut card, &ONE)?;
+        take_steps(&rt, "card", &mut card, &ONE)?;
         let mut too_small = Card::new(vec![in rt.alloc(); 170u8; 511]?);
-        take_steps(&rt, &mut too_small, &NO_ROOM)
+        take_steps(&rt, "card", &mut too_small, &NO_ROOM)
     }
 
     #[test]

@@ -3,18 +3,18 @@ use lib.Seq.{paste}
 use Rattle.memory.specs.Records.{length_of, size_of}
 use Rattle.memory.proofs.JournalWalks.{packing_head, packing_skip, packing_move, packing_all}
 use Rattle.memory.proofs.journal.compact.Goals as goal
-use Rattle.memory.proofs.journal.compact.Goals.{then-number-at-number, else-number-at-number}
+use Rattle.memory.proofs.journal.compact.Goals.{then-number_at-number, else-number_at-number}
 
-pub length-at-size-requires : goal.length-at-size-requires
-length-at-size-requires c = omega (arith, packing_head c.loop-left.invariant c.loop-left-test.true)
+pub length_at-size-requires : goal.length_at-size-requires
+length_at-size-requires c = omega (arith, packing_head c.loop-left.invariant c.loop-left-test.true)
 
-pub number-at-requires : goal.number-at-requires
-number-at-requires c = omega (arith, packing_head c.loop-left.invariant c.loop-left-test.true)
+pub number_at-requires : goal.number_at-requires
+number_at-requires c = omega (arith, packing_head c.loop-left.invariant c.loop-left-test.true)
 
-pub move-down-requires : goal.move-down-requires
-move-down-requires c =
+pub move_down-requires : goal.move_down-requires
+move_down-requires c =
     let h = packing_head c.loop-left.invariant c.loop-left-test.true in
-    let e = c.length-at-size.ensures.value in
+    let e = c.length_at-size.ensures.value in
     let b = c.loop-left.invariant.behind in
     record { within = omega arith; down = b }
 
@@ -22,15 +22,15 @@ pub loop-left-preserved : goal.loop-left-preserved
 loop-left-preserved c =
     let bs = c.loop-left.bytes in
     let xs = drop c.loop-left.from bs in
-    let e : c.length-at-size.result ≡ length_of xs = c.length-at-size.ensures.value in
-    let n = c.number-at.ensures in
-    elim c.if-number-at-number.branch [
-      | then-number-at-number w ↦
-          let size : 6 + c.length-at-size.result ≡ size_of xs = omega arith in
-          let is = w.move-down.ensures ∙ ap (paste bs c.loop-left.to xs) size in
-          rw (w.bytes-is, w.stays-is, w.to-is, e) (packing_move c.loop-left.invariant w.move-down.new.bytes c.loop-left-test.true (omega (arith, w.if-number-at-number.true)) is)
-      | else-number-at-number w ↦
-          rw (w.bytes-is, w.stays-is, w.to-is, e) (packing_skip c.loop-left.invariant c.loop-left-test.true (omega (arith, w.if-number-at-number.false)))
+    let e : c.length_at-size.result ≡ length_of xs = c.length_at-size.ensures.value in
+    let n = c.number_at.ensures in
+    elim c.if-number_at-number.branch [
+      | then-number_at-number w ↦
+          let size : 6 + c.length_at-size.result ≡ size_of xs = omega arith in
+          let is = w.move_down.ensures ∙ ap (paste bs c.loop-left.to xs) size in
+          rw (w.bytes-is, w.stays-is, w.to-is, e) (packing_move c.loop-left.invariant w.move_down.new.bytes c.loop-left-test.true (omega (arith, w.if-number_at-number.true)) is)
+      | else-number_at-number w ↦
+          rw (w.bytes-is, w.stays-is, w.to-is, e) (packing_skip c.loop-left.invariant c.loop-left-test.true (omega (arith, w.if-number_at-number.false)))
     ]
 
 pub returns : goal.returns

@@ -7,5 +7,5 @@ pub returns : goal.returns
 unfolding header
 returns c =
     three_writes c.args.bytes.now c.args.at _ _ _ _ _ c.args.payload.now
-    (c.copy-from-slice.ensures.after ∙ c.to-be-bytes.ensures) (c.copy-from-slice-2.ensures.after ∙ c.to-be-bytes-2.ensures) c.copy-from-slice-3.ensures.after
+    (c.copy_from_slice.ensures.after ∙ c.to_be_bytes.ensures) (c.copy_from_slice-2.ensures.after ∙ c.to_be_bytes-2.ensures) c.copy_from_slice-3.ensures.after
     refl refl (omega arith)

@@ -8,8 +8,8 @@ pub loop-i-preserved : goal.loop-i-preserved
 loop-i-preserved c =
     let n = length c.args.bytes.now / 518 in
     let bs = c.loop-i.bytes in
-    let w = written bs c.write-record.new.bytes n c.loop-i.i 0 [] c.loop-i-test.true (omega arith) (omega arith) (omega arith) c.write-record.ensures in
-    below_more (λ k. length_of (slot k c.write-record.new.bytes) ≡ 0) c.loop-i.i
+    let w = written bs c.write_record.new.bytes n c.loop-i.i 0 [] c.loop-i-test.true (omega arith) (omega arith) (omega arith) c.write_record.ensures in
+    below_more (λ k. length_of (slot k c.write_record.new.bytes) ≡ 0) c.loop-i.i
     (λ k l. let z = c.loop-i.invariant k l in sym (w.others k (omega arith) (λ e. omega arith) (omega arith)).1 ∙ z)
     w.len
 

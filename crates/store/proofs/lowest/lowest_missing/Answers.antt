@@ -4,8 +4,8 @@ use Rattle.store.proofs.Keeping.{stored}
 use Rattle.store.proofs.Missing.{lowest_is, lowest_one}
 use Rattle.store.proofs.lowest.lowest_missing.Goals as goal
 
-pub overflow-add-low : goal.overflow-add-low
-overflow-add-low g c = search (rules, stored)
+pub overflow_add-low : goal.overflow_add-low
+overflow_add-low g c = search (rules, stored)
 
 pub loop-low-smaller : goal.loop-low-smaller
 loop-low-smaller g c = search (rules, stored)

@@ -4,8 +4,8 @@ use Rattle.memory.specs.Slots.{slot_count, slot, one}
 use Rattle.memory.specs.SlotWalks.{seek_here, homed_miss}
 use Rattle.memory.proofs.slots.SlotStore.find.Goals as goal
 
-pub returns-then-holds-at : goal.returns-then-holds-at
-returns-then-holds-at c =
+pub returns-then-holds_at : goal.returns-then-holds_at
+returns-then-holds_at c =
     let s = c.args.self.now in
     let bs = vec_items s.memory in
     let n = c.args.number in
@@ -13,7 +13,7 @@ returns-then-holds-at c =
     let count : c.len-count.result / 518 ≡ slot_count bs = ap (λ m. m / 518) (c.len-count.ensures ∙ s.memory.ok.0) in
     let some : 0 < c.len-count.result / 518 = omega (arith, c.if-count-eq0.false) in
     let low : h < slot_count bs = omega (arith, mod-lt n some) in
-    let here = ap (λ xs. holds n (one (slot h xs))) (sym c.deref.ensures.value) ∙ sym c.holds-at.ensures ∙ c.if-holds-at.true in
+    let here = ap (λ xs. holds n (one (slot h xs))) (sym c.deref.ensures.value) ∙ sym c.holds_at.ensures ∙ c.if-holds_at.true in
     let f = seek_here (slot_count bs) n h bs low (omega arith) s.short s.distinct here in
     record { test = sym f.held; place = f }
 
@@ -23,5 +23,5 @@ returns-then-self c =
     let bs = vec_items s.memory in
     let n = c.args.number in
     let count : c.len-count.result / 518 ≡ slot_count bs = ap (λ m. m / 518) (c.len-count.ensures ∙ s.memory.ok.0) in
-    let miss = ap (λ k. holds n (one (slot (n % k) bs))) (sym count) ∙ ap (λ xs. holds n (one (slot (n % (c.len-count.result / 518)) xs))) (sym c.deref.ensures.value) ∙ sym c.holds-at.ensures ∙ c.if-holds-at.false in
+    let miss = ap (λ k. holds n (one (slot (n % k) bs))) (sym count) ∙ ap (λ xs. holds n (one (slot (n % (c.len-count.result / 518)) xs))) (sym c.deref.ensures.value) ∙ sym c.holds_at.ensures ∙ c.if-holds_at.false in
     record { test = sym (homed_miss (slot_count bs) n bs (s.homes c.if-self.true) miss (slot_count bs) (omega arith)); place = tt }

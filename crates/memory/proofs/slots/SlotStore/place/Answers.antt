@@ -4,18 +4,19 @@ use Rattle.memory.specs.SlotWalks.{length_slots}
 use Rattle.memory.proofs.SlotStates.{placed}
 use Rattle.memory.proofs.slots.SlotStore.place.Goals as goal
 
-pub overflow-add-self : goal.overflow-add-self
-overflow-add-self c =
+pub overflow_add-self : goal.overflow_add-self
+overflow_add-self c =
     let s = c.args.self.now in
     let bs = vec_items s.memory in omega (arith, s.counted, length_slots (slot_count bs) bs)
 
-pub invariant-of-self : goal.invariant-of-self
-invariant-of-self c =
-    (placed c.args.self.now c.args.i c.args.number _ _ c.args.payload.now _ c.write-record.new.bytes
-    c.requires.good c.requires.free c.requires.within c.requires.empty c.len-count.ensures c.deref-mut.ensures.value c.write-record.ensures c.still-homed-self.ensures).keeps
+pub invariant_of-self : goal.invariant_of-self
+invariant_of-self c =
+    let k = (placed c.args.self.now c.args.i c.args.number _ _ c.args.payload.now _ c.write_record.new.bytes
+    c.requires.good c.requires.free c.requires.within c.requires.empty c.len-count.ensures c.deref_mut.ensures.value c.write_record.ensures c.still_homed-self.ensures).keeps in
+    record { short = k.0; distinct = k.1.0; counted = k.1.1.0; homes = k.1.1.1.0 }
 
 pub returns : goal.returns
 returns c =
-    let t = placed c.args.self.now c.args.i c.args.number _ _ c.args.payload.now _ c.write-record.new.bytes
-    c.requires.good c.requires.free c.requires.within c.requires.empty c.len-count.ensures c.deref-mut.ensures.value c.write-record.ensures c.still-homed-self.ensures in
+    let t = placed c.args.self.now c.args.i c.args.number _ _ c.args.payload.now _ c.write_record.new.bytes
+    c.requires.good c.requires.free c.requires.within c.requires.empty c.len-count.ensures c.deref_mut.ensures.value c.write_record.ensures c.still_homed-self.ensures in
     record { after = t.after; len = t.len }
