@@ -1,12 +1,8 @@
 -- A sound receiver stays sound over every packet, never lowers its low while joined, and its replies are within range.
 -- Assumes nothing.
-use Rattle.std.proofs.Common.{◌≡◌, ℕ, ◌≤◌, true, false, eqb, List, Some, None, Option, refl, subst, arith}
-use Rattle.std.specs.declared.convert.Infallible.{Infallible}
+use Rattle.std.proofs.Common.{◌≡◌, ℕ, ◌≤◌, true, false, eqb, List, refl, subst, arith}
 use Rattle.std.proofs.lemmas.Bool.{lt-ltb, both_ways, cond_both}
 use Rattle.store.specs.Pairs.{Meaning, Sound}
-use Rattle.wire.specs.Plain.{map_body, no_payload}
-use Rattle.wire.specs.Ranges.{body_in_range}
-use Rattle.wire.specs.declared.packet.Body.{Body}
 use Rattle.address.specs.Deliveries.{Acceptance, unchanged}
 use Rattle.address.proofs.Replies.{ReplyGood}
 use Rattle.member.specs.declared.member.Member.{Member}

@@ -1,11 +1,11 @@
 -- A sound receiver is made by a good check, and stays sound when it reports. Assumes nothing.
-use Rattle.std.proofs.Common.{◌≡◌, ℕ, ◌≤◌, true, false, cond, ◌&&◌, eqb, leb, List, [], ◌∷◌, length, is_ok, sym, refl, ap, ◌∙◌, inl, inr, arith}
-use Rattle.std.proofs.lemmas.Bool.{leb-true, eqb-false, and_parts, both_ways, cases_Bool}
+use Rattle.std.proofs.Common.{◌≡◌, ℕ, true, ◌&&◌, leb, List, [], ◌∷◌, length, is_ok}
+use Rattle.std.proofs.lemmas.Bool.{leb-true, and_parts}
 use Rattle.store.specs.Pairs.{Meaning, Sound}
 use Rattle.address.specs.Sounds.{WithinRange}
 use Rattle.member.specs.declared.member.Member.{Member}
 use Rattle.member.specs.declared.types.Identity.{Identity}
-use Rattle.member.specs.Checks.{good_making, distinct_numbers, has_number}
+use Rattle.member.specs.Checks.{good_making, distinct_numbers}
 use Rattle.member.specs.Members.{upper_number, report_answer, report_after}
 use Rattle.member.specs.Sounds.{MemberSound}
 use Rattle.member.proofs.Given.{number_given}

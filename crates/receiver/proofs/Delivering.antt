@@ -1,16 +1,14 @@
 -- A sound receiver stays sound over every deliver, and writes every reply that it owes. Assumes nothing.
-use Rattle.std.proofs.Common.{◌≡◌, ℕ, true, eqb, List, Some, None, Ok, Err, Option, Result, subst, arith, Bor}
-use Rattle.std.specs.declared.convert.Infallible.{Infallible}
-use Rattle.std.proofs.lemmas.Bool.{and_parts, and_from, cond_both}
+use Rattle.std.proofs.Common.{◌≡◌, ℕ, true, eqb, List, Some, None, Ok, Err, Option, Result, Bor}
+use Rattle.std.proofs.lemmas.Bool.{and_parts, cond_both}
 use Rattle.answer.specs.declared.Refusal.{Refusal}
 use Rattle.store.specs.Pairs.{Meaning, Sound}
-use Rattle.wire.specs.Plain.{map_body, no_payload}
 use Rattle.wire.specs.Ranges.{header_in_range, body_in_range, packet_in_range}
 use Rattle.wire.specs.declared.packet.Body.{Body}
 use Rattle.wire.specs.declared.packet.Body.TheVariants as body
 use Rattle.wire.specs.declared.packet.Message.{Message}
 use Rattle.address.specs.Addresses.{address_answer}
-use Rattle.address.specs.Deliveries.{past_address, admission, accepted, delivered}
+use Rattle.address.specs.Deliveries.{admission, accepted, delivered}
 use Rattle.address.proofs.Replies.{WhereSome, let_in, ReplyGood, reply_in_range}
 use Rattle.member.specs.declared.types.FromParent.{FromParent}
 use Rattle.member.specs.Parents.{is_parent, parent_packet}

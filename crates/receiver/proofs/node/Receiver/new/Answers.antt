@@ -1,7 +1,7 @@
 use Rattle.std.proofs.Common.{sym, ap, subst}
 use Rattle.member.specs.Sounds.{MemberSound}
 use Rattle.receiver.specs.Archives.{ArchiveSound, ArchiveIdle}
-use Rattle.receiver.specs.Nodes.{new_member, with_member, new_receiver}
+use Rattle.receiver.specs.Nodes.{with_member, new_receiver}
 use Rattle.receiver.proofs.Calling.{new_sound}
 use Rattle.receiver.proofs.node.Receiver.new.Goals as goal
 
