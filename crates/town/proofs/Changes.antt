@@ -1,10 +1,10 @@
 -- The nodes of a town in their places, seen at the meaning of their stores. Assumes nothing.
-use Rattle.std.proofs.Common.{◌≡◌, ℕ, ◌+◌, ◌<◌, ◌≤◌, Bool, true, false, cond, eqb, List, [], ◌∷◌, map, length, get_or, drop, set, Some, None, Result, sym, refl, ap, ◌∙◌, subst, arith}
+use Rattle.std.proofs.Common.{◌≡◌, ℕ, ◌+◌, ◌<◌, ◌≤◌, Bool, cond, eqb, List, map, length, get_or, drop, set, Some, None, Result, sym, ap, ◌∙◌, arith}
 use Rattle.std.proofs.lemmas.List.{map-set, get_or-map, at_drop_more, at_drop_all, length-map}
 use Rattle.store.specs.Pairs.{Meaning}
 use Rattle.sender.specs.declared.sender.Sender.{Sender}
 use Rattle.town.specs.declared.types.Denial.{Denial}
-use Rattle.town.specs.Keyed.{at, put, place, At}
+use Rattle.town.specs.Keyed.{put, place, At}
 use Rattle.town.specs.Nodes.{SeenNode, number_of, Deed}
 use Rattle.town.specs.Towns.{State, nobody, node_at, Effect, done_at, at_number}
 

@@ -1,6 +1,5 @@
 -- The climb from a node to the top, step by step. Assumes nothing.
-use Rattle.std.proofs.Common.{◌≡◌, ℕ, zero, suc, ◌-◌, ◌<◌, Bool, true, false, cond, List, [], sym, refl, ap, ◌∙◌, arith}
-use Rattle.town.specs.declared.standing.Step.{Step}
+use Rattle.std.proofs.Common.{◌≡◌, ℕ, zero, suc, ◌-◌, ◌<◌, Bool, true, false, cond, List, [], sym, ap, ◌∙◌, arith}
 use Rattle.town.specs.declared.standing.Step.TheVariants.{Top, Up, Lost}
 use Rattle.rows.specs.declared.row.Row.{Row}
 use Rattle.rows.specs.Tables.{has_live_row}

@@ -1,7 +1,7 @@
 -- Lists whose elements go by a number: where an element is. Assumes nothing.
-use Rattle.std.proofs.Common.{◌≡◌, ℕ, suc, ◌+◌, ◌<◌, ◌≤◌, Bool, true, false, cond, eqb, List, [], ◌∷◌, length, get_or, set, Some, None, Option, sym, refl, ap, ◌∙◌, subst, arith}
+use Rattle.std.proofs.Common.{◌≡◌, ℕ, suc, ◌+◌, Bool, true, false, cond, eqb, List, [], ◌∷◌, Some, None, Option, sym, refl, ap, subst, arith}
 use Rattle.std.proofs.lemmas.Bool.{both_ways}
-use Rattle.town.specs.Keyed.{held, at, put, place, At, Found}
+use Rattle.town.specs.Keyed.{held, at, place, At, Found}
 
 place_some : {X : Type 0} (key : X → ℕ) (d : X) (i k j : ℕ) (xs : List X) → place key i k xs ≡ Some j → (m : ℕ) × (j ≡ k + m) × At key d i xs m
 place_some key d i k j [] h = let z : ◌≡◌ {A = ℕ} 0 1 = cc in absurd (omega arith)

@@ -1,5 +1,5 @@
 -- A list of nodes that grows by one, and the nodes of a town just made. Assumes nothing.
-use Rattle.std.proofs.Common.{◌≡◌, ℕ, List, [], ◌∷◌, ◌++◌, map, length, sym, refl, ap, ◌∙◌, arith}
+use Rattle.std.proofs.Common.{◌≡◌, List, [], ◌∷◌, ◌++◌, map, length, sym, refl, ap, ◌∙◌, arith}
 use Rattle.store.specs.Pairs.{Meaning}
 use Rattle.address.specs.declared.Address.{Address}
 use Rattle.rows.specs.Rows.{new_row}

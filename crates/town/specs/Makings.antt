@@ -1,5 +1,5 @@
 -- A town just made from a plan. Assumes nothing.
-use Rattle.std.specs.Prelude.{ℕ, List, ◌∷◌, map}
+use Rattle.std.specs.Prelude.{List, ◌∷◌, map}
 use Rattle.store.specs.Pairs.{Meaning}
 use Rattle.rows.specs.Rows.{new_row}
 use Rattle.control.specs.Nodes.{new_control}

@@ -1,5 +1,5 @@
 -- What each tool makes of one node of the tree, and what it answers. Assumes nothing.
-use Rattle.std.specs.Prelude.{ℕ, Bool, cond, List, [], is_ok, Ok, Err, Result}
+use Rattle.std.specs.Prelude.{ℕ, Bool, List, [], is_ok, Ok, Err, Result}
 use Rattle.answer.specs.declared.Delivered.{Delivered}
 use Rattle.answer.specs.declared.Refusal.{Refusal}
 use Rattle.store.specs.Pairs.{Meaning}

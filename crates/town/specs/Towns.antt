@@ -1,5 +1,5 @@
 -- A town, and what each tool makes of it: one node changes at most. Assumes nothing.
-use Rattle.std.specs.Prelude.{ℕ, zero, suc, Bool, true, false, cond, List, [], map, length, is_ok, Ok, Err, vec_items, Result, ◌==◌}
+use Rattle.std.specs.Prelude.{ℕ, zero, suc, Bool, true, false, cond, List, [], map, length, is_ok, Err, vec_items, Result, ◌==◌}
 use Rattle.answer.specs.declared.Delivered.{Delivered}
 use Rattle.store.specs.Pairs.{Meaning}
 use Rattle.wire.specs.Encoding.{encode, buffer_after}
@@ -17,7 +17,7 @@ use Rattle.town.specs.declared.standing.Step.TheVariants.{Top, Up, Lost}
 use Rattle.town.specs.declared.types.Denial.{Denial}
 use Rattle.town.specs.declared.types.Denial.TheVariants.{Absent, Lacking}
 use Rattle.town.specs.Keyed.{held, at, put}
-use Rattle.town.specs.Nodes.{SeenNode, node_seen, identity_of, number_of, standing_of, term_of, rows_of, Deed, denied, joins, leaves, reports, beats, ticks, delivers}
+use Rattle.town.specs.Nodes.{SeenNode, node_seen, identity_of, number_of, standing_of, term_of, rows_of, Deed, denied, delivers}
 
 -- the nodes of a town with their stores at their meaning
 pub record State : Type 0 where

@@ -1,7 +1,6 @@
-use Rattle.std.proofs.Common.{◌≡◌, List, [], ◌++◌, map, length, vec_items, sym, ap, ◌∙◌}
+use Rattle.std.proofs.Common.{◌++◌, map, vec_items, sym, ap, ◌∙◌}
 use Rattle.std.specs.Vec.Iter.{into_iter_items}
 use Rattle.std.proofs.lemmas.List.{append-nil}
-use Rattle.plan.specs.declared.types.Place.{Place}
 use Rattle.plan.specs.Plans.{bare}
 use Rattle.town.specs.Nodes.{node_seen}
 use Rattle.town.specs.Makings.{place_seen, new_member}

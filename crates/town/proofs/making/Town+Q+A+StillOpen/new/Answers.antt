@@ -1,8 +1,6 @@
-use Rattle.std.proofs.Common.{◌≡◌, List, [], ◌∷◌, ◌++◌, map, vec_items, sym, ap, ◌∙◌}
-use Rattle.rows.specs.Rows.{new_row}
-use Rattle.control.specs.Nodes.{new_control}
+use Rattle.std.proofs.Common.{◌≡◌, [], ◌∷◌, ◌++◌, map, vec_items, ap, ◌∙◌}
 use Rattle.sender.specs.Senders.{new_sender}
-use Rattle.plan.specs.Plans.{bare, children_of}
+use Rattle.plan.specs.Plans.{bare}
 use Rattle.plan.specs.Identities.{address_in}
 use Rattle.town.specs.declared.types.Node.TheVariants as node
 use Rattle.town.specs.Nodes.{node_seen}
@@ -36,6 +34,6 @@ returns g c =
     let made : top ≡ made_top s c.address.result (map bare places) = ap node.Control c.in_ok-control.ensures ∙ ap (λ l. made_top s c.address.result (map bare l)) c.deref-2.ensures.value in
     let same : places ≡ map bare members = c.in_ok-places.ensures ∙ ap (map bare) c.deref.ensures.value in
     let all = nodes-made g.A.Store.meaning s members places c.address.result top _ same c.address.ensures made nodes in
-    let sender = c.new_sender.ensures.is ∙ ap (λ a. new_sender a s.top (g.Q.Store.meaning c.args.queue)) c.address-2.ensures in
+    let sender = c.new-sender.ensures.is ∙ ap (λ a. new_sender a s.top (g.Q.Store.meaning c.args.queue)) c.address-2.ensures in
     ap (λ x. record { sender = x; nodes = map f (vec_items c.add_members.new.nodes) }) sender
     ∙ ap (λ l. record { sender = new_sender (address_in s s.sender) s.top (g.Q.Store.meaning c.args.queue); nodes = l }) all

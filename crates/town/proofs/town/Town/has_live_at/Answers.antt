@@ -1,6 +1,6 @@
-use Rattle.std.proofs.Common.{◌≡◌, sym, ap, ◌∙◌}
+use Rattle.std.proofs.Common.{sym, ap, ◌∙◌}
 use Rattle.rows.specs.Tables.{has_live_row}
-use Rattle.town.specs.Nodes.{SeenNode, node_seen, identity_of, standing_of, term_of, rows_of}
+use Rattle.town.specs.Nodes.{SeenNode, node_seen, rows_of}
 use Rattle.town.specs.Towns.{nobody}
 use Rattle.town.proofs.Changes.{seen_at}
 use Rattle.town.proofs.town.Town.has_live_at.Goals as goal

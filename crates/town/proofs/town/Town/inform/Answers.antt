@@ -1,10 +1,10 @@
-use Rattle.std.proofs.Common.{◌≡◌, Bool, cond, eqb, map, is_ok, vec_items, sym, refl, ap, ◌∙◌}
+use Rattle.std.proofs.Common.{is_ok, sym, ap, ◌∙◌}
 use Rattle.std.proofs.lemmas.Bool.{eq-eqb, ne_eqb, cond-true, cond-false}
 use Rattle.answer.specs.declared.Delivered.{Delivered}
-use Rattle.sender.specs.Senders.{sender_seen, sender_after, sender_buffer}
+use Rattle.sender.specs.Senders.{sender_after, sender_buffer}
 use Rattle.town.specs.declared.types.Denial.TheVariants.{Absent}
-use Rattle.town.specs.Nodes.{node_seen, denied}
-use Rattle.town.specs.Towns.{State, town_seen, is_sender, Effect, informing, turned_down}
+use Rattle.town.specs.Nodes.{denied}
+use Rattle.town.specs.Towns.{town_seen, is_sender, Effect, informing, turned_down}
 use Rattle.town.proofs.town.Town.inform.Goals as goal
 
 pub returns-then-number : goal.returns-then-number

@@ -1,4 +1,4 @@
-use Rattle.std.proofs.Common.{◌≡◌, sym, ap, ◌∙◌}
+use Rattle.std.proofs.Common.{sym, ap, ◌∙◌}
 use Rattle.member.specs.declared.types.Identity.{Identity}
 use Rattle.town.specs.Nodes.{SeenNode, node_seen, number_of}
 use Rattle.town.specs.Towns.{nobody}

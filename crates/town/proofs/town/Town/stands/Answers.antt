@@ -1,8 +1,8 @@
-use Rattle.std.proofs.Common.{◌≡◌, vec_items, sym, ap, ◌∙◌}
+use Rattle.std.proofs.Common.{vec_items, sym, ap, ◌∙◌}
 use Rattle.std.proofs.lemmas.List.{length-map}
 use Rattle.town.specs.Nodes.{node_seen}
 use Rattle.town.specs.Towns.{town_seen, climbs}
-use Rattle.town.proofs.Climbs.{climb_top, climb_lost, climb_up, climb_end}
+use Rattle.town.proofs.Climbs.{climb_top, climb_lost, climb_up}
 use Rattle.town.proofs.town.Town.stands.Goals as goal
 
 pub loop-left-init : goal.loop-left-init

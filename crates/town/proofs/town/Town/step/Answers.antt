@@ -1,4 +1,4 @@
-use Rattle.std.proofs.Common.{◌≡◌, false, sym, ap, ◌∙◌, subst}
+use Rattle.std.proofs.Common.{sym, ap, ◌∙◌}
 use Rattle.member.specs.Members.{upper_number, is_top}
 use Rattle.town.specs.Nodes.{SeenNode, identity_of}
 use Rattle.town.specs.Towns.{town_seen, within}

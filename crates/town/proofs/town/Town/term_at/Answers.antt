@@ -1,5 +1,5 @@
-use Rattle.std.proofs.Common.{◌≡◌, sym, ap, ◌∙◌}
-use Rattle.town.specs.Nodes.{SeenNode, node_seen, identity_of, standing_of, term_of, rows_of}
+use Rattle.std.proofs.Common.{sym, ap, ◌∙◌}
+use Rattle.town.specs.Nodes.{node_seen, term_of}
 use Rattle.town.specs.Towns.{nobody}
 use Rattle.town.proofs.Changes.{seen_at}
 use Rattle.town.proofs.town.Town.term_at.Goals as goal
