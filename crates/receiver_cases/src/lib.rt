@@ -162,6 +162,7 @@ mod tests {
 
     fn from_sender<S: Store>(
         rt: &impl Abort,
+        kind: &str,
         node: &mut Receiver<S>,
         body: Body<&[u8]>,
         want: Outcome,
@@ -173,12 +174,13 @@ mod tests {
             addressee: 0,
             body,
         };
-        assert_eq!(rt; bring(node, &packet)?, Ok(want));
+        assert_eq!(rt; bring(node, &packet)?, Ok(want), "{kind}");
         Ok(())
     }
 
     fn from_parent<S: Store>(
         rt: &impl Abort,
+        kind: &str,
         node: &mut Receiver<S>,
         body: Body<&[u8]>,
     ) -> Result<(), Fail> {
@@ -189,12 +191,13 @@ mod tests {
             addressee: 9,
             body,
         };
-        assert_eq!(rt; bring(node, &packet)?, Ok(TAKEN));
+        assert_eq!(rt; bring(node, &packet)?, Ok(TAKEN), "{kind}");
         Ok(())
     }
 
     fn take_step<S: Store>(
         rt: &impl Abort,
+        kind: &str,
         node: &mut Receiver<S>,
         step: Step,
     ) -> Result<(), Fail> {
@@ -202,22 +205,29 @@ mod tests {
         match step {
             Step::Join(term, start, slot) => {
                 let mut out = [0u8; 20];
-                assert_eq!(rt; node.join(&mut out), Ok(20));
-                from_parent(rt, node, Body::JoinConfirm { term, start, slot })
+                assert_eq!(rt; node.join(&mut out), Ok(20), "{kind}");
+                from_parent(rt, kind, node, Body::JoinConfirm { term, start, slot })
             }
-            Step::Eject(term) => from_parent(rt, node, Body::Eject { term }),
-            Step::Data(number, want) => from_sender(rt, node, Body::Data { number, payload }, want),
+            Step::Eject(term) => from_parent(rt, kind, node, Body::Eject { term }),
+            Step::Data(number, want) => from_sender(
+                rt,
+                kind,
+                node,
+                Body::Data { number, payload },
+                want,
+            ),
             Step::Again(number, want) => from_sender(
                 rt,
+                kind,
                 node,
                 Body::Retransmission { number, payload },
                 want,
             ),
-            Step::Null(want) => from_sender(rt, node, Body::NullData { highest: 0 }, want),
+            Step::Null(want) => from_sender(rt, kind, node, Body::NullData { highest: 0 }, want),
             Step::Stands(low, high) => {
-                assert_eq!(rt; node.low(), low);
-                assert_eq!(rt; node.held_through(), low.saturating_sub(1));
-                assert_eq!(rt; node.high(), high);
+                assert_eq!(rt; node.low(), low, "{kind}");
+                assert_eq!(rt; node.held_through(), low.saturating_sub(1), "{kind}");
+                assert_eq!(rt; node.high(), high, "{kind}");
                 Ok(())
             }
         }
@@ -225,25 +235,27 @@ mod tests {
 
     fn take_steps<S: Store>(
         rt: &impl Abort,
+        kind: &str,
         node: &mut Receiver<S>,
         steps: &[Step],
     ) -> Result<(), Fail> {
         for step in steps {
-            take_step(rt, node, *step)?;
+            take_step(rt, kind, node, *step)?;
         }
         Ok(())
     }
 
     fn play<S: MadeOver + Drop>(
         rt: &impl Abort,
+        kind: &str,
         heap: Global,
         bytes: usize,
         steps: &[Step],
     ) -> Result<(), Fail> {
         let mut node = Receiver::new(NODE, 6, 200, 1, S::new(vec![in heap; 170u8; bytes]?));
-        assert_eq!(rt; node.standing(), Standing::Outside);
-        assert_eq!(rt; node.identity().address.number, 9);
-        take_steps(rt, &mut node, steps)
+        assert_eq!(rt; node.standing(), Standing::Outside, "{kind}");
+        assert_eq!(rt; node.identity().address.number, 9, "{kind}");
+        take_steps(rt, kind, &mut node, steps)
     }
 
     fn play_both(
@@ -251,8 +263,8 @@ mod tests {
         bytes: usize,
         steps: &[Step],
     ) -> Result<(), Fail> {
-        play::<Journal>(rt, rt.alloc(), bytes, steps).note("journal")?;
-        play::<SlotStore>(rt, rt.alloc(), bytes, steps).note("slot store")
+        play::<Journal>(rt, "journal", rt.alloc(), bytes, steps)?;
+        play::<SlotStore>(rt, "slot store", rt.alloc(), bytes, steps)
     }
 
     #[test]
@@ -288,19 +300,23 @@ mod tests {
         play_both(&rt, 5180, &REJOIN)
     }
 
-    fn full_then_room<S: MadeOver + Drop>(rt: &impl Abort, heap: Global) -> Result<(), Fail> {
+    fn full_then_room<S: MadeOver + Drop>(
+        rt: &impl Abort,
+        kind: &str,
+        heap: Global,
+    ) -> Result<(), Fail> {
         let mut node = Receiver::new(NODE, 6, 200, 1, S::new(vec![in heap; 170u8; 1036]?));
-        take_steps(rt, &mut node, &NO_ROOM)?;
+        take_steps(rt, kind, &mut node, &NO_ROOM)?;
         let mut archive = node.into_archive();
         archive.forget(2);
         let mut again = Receiver::new(NODE, 6, 200, 1, archive);
-        take_steps(rt, &mut again, &ROOM_AGAIN)
+        take_steps(rt, kind, &mut again, &ROOM_AGAIN)
     }
 
     #[test]
     fn full_and_room_again(rt: HostRuntime) -> Result<(), Fail> {
-        full_then_room::<Journal>(&rt, rt.alloc()).note("journal")?;
-        full_then_room::<SlotStore>(&rt, rt.alloc()).note("slot store")
+        full_then_room::<Journal>(&rt, "journal", rt.alloc())?;
+        full_then_room::<SlotStore>(&rt, "slot store", rt.alloc())
     }
 
     // What deliver says of a JoinAck from this writer to this node, with this room for a reply.
