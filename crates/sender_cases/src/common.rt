@@ -24,6 +24,7 @@ pub(crate) fn open<Q: MadeOver>(heap: Global, bytes: usize) -> Result<Open<Q>, F
 // Offers a payload to a buffer of `room` bytes. Bytes beyond the packet, and all of them on a refusal, stay as they were.
 pub(crate) fn offer<Q: Store>(
     rt: &impl Abort,
+    kind: &str,
     sender: &mut Open<Q>,
     payload: &[u8],
     room: usize,
@@ -32,15 +33,15 @@ pub(crate) fn offer<Q: Store>(
     let answer = sender.offer(payload, &mut out[0..room.min(40)]);
     let front = answer.unwrap_or(0);
     for (i, byte) in out.iter().enumerate() {
-        assert!(rt; i < front || *byte == 9);
+        assert!(rt; i < front || *byte == 9, "{kind}");
     }
     answer
 }
 
 // Offers a payload of one byte, `count` times.
-pub(crate) fn offer_some<Q: Store>(rt: &impl Abort, sender: &mut Open<Q>, count: u32) {
+pub(crate) fn offer_some<Q: Store>(rt: &impl Abort, kind: &str, sender: &mut Open<Q>, count: u32) {
     for _ in 0..count {
-        assert_eq!(rt; offer(rt, sender, &[7], 23), Ok(23));
+        assert_eq!(rt; offer(rt, kind, sender, &[7], 23), Ok(23), "{kind}");
     }
 }
 
@@ -70,6 +71,7 @@ pub(crate) fn told(answer: Result<Delivered, Refusal>) -> u8 {
 // Brings a packet to the sender. Its reply buffer stays as it was.
 pub(crate) fn bring<Q: Store, P: Phase>(
     rt: &impl Abort,
+    kind: &str,
     sender: &mut Sender<Q, P>,
     writer: u16,
     addressee: u16,
@@ -80,6 +82,6 @@ pub(crate) fn bring<Q: Store, P: Phase>(
     let len = write(&packet, &mut bytes)?;
     let mut reply = [9u8; 26];
     let answer = sender.deliver(&bytes[0..len.min(74)], &mut reply);
-    assert_eq!(rt; reply, [9u8; 26]);
+    assert_eq!(rt; reply, [9u8; 26], "{kind}");
     Ok(told(answer))
 }

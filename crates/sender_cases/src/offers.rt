@@ -29,85 +29,129 @@ fn makings(rt: HostRuntime) {
 }
 
 // 256 on their way, then none more until a report releases one.
-fn fills_the_window<Q: MadeOver + Drop>(rt: &impl Abort, heap: Global) -> Result<(), Fail> {
+fn fills_the_window<Q: MadeOver + Drop>(
+    rt: &impl Abort,
+    kind: &str,
+    heap: Global,
+) -> Result<(), Fail> {
     let mut sender = open::<Q>(heap, 133126)?;
-    offer_some(rt, &mut sender, 256);
-    assert_eq!(rt; offer(rt, &mut sender, &[7], 23), Err(Refusal::WindowFull));
-    assert_eq!(rt; sender.highest(), 256);
+    offer_some(rt, kind, &mut sender, 256);
+    assert_eq!(rt;
+        offer(rt, kind, &mut sender, &[7], 23),
+        Err(Refusal::WindowFull),
+        "{kind}"
+    );
+    assert_eq!(rt; sender.highest(), 256, "{kind}");
     let held = Body::Hack(report(1, 2, 1, 0));
-    assert_eq!(rt; bring(rt, &mut sender, TOP, 100, held)?, 103);
-    assert_eq!(rt; sender.released(), 1);
-    assert_eq!(rt; offer(rt, &mut sender, &[7], 23), Ok(23));
-    assert_eq!(rt; offer(rt, &mut sender, &[7], 23), Err(Refusal::WindowFull));
-    assert_eq!(rt; sender.highest(), 257);
+    assert_eq!(rt;
+        bring(rt, kind, &mut sender, TOP, 100, held)?,
+        103,
+        "{kind}"
+    );
+    assert_eq!(rt; sender.released(), 1, "{kind}");
+    assert_eq!(rt; offer(rt, kind, &mut sender, &[7], 23), Ok(23), "{kind}");
+    assert_eq!(rt;
+        offer(rt, kind, &mut sender, &[7], 23),
+        Err(Refusal::WindowFull),
+        "{kind}"
+    );
+    assert_eq!(rt; sender.highest(), 257, "{kind}");
     Ok(())
 }
 
 #[test]
 fn the_window(rt: HostRuntime) -> Result<(), Fail> {
-    fills_the_window::<Journal>(&rt, rt.alloc()).note("journal")?;
-    fills_the_window::<SlotStore>(&rt, rt.alloc()).note("slot store")
+    fills_the_window::<Journal>(&rt, "journal", rt.alloc())?;
+    fills_the_window::<SlotStore>(&rt, "slot store", rt.alloc())
 }
 
 // A queue with room for one: 20, 12 and 4, each before the next.
-fn refuses_in_order<Q: MadeOver + Drop>(rt: &impl Abort, heap: Global) -> Result<(), Fail> {
+fn refuses_in_order<Q: MadeOver + Drop>(
+    rt: &impl Abort,
+    kind: &str,
+    heap: Global,
+) -> Result<(), Fail> {
     let mut sender = open::<Q>(heap, 518)?;
-    assert_eq!(rt; offer(rt, &mut sender, &[], 0), Err(Refusal::BadPayload));
     assert_eq!(rt;
-        offer(rt, &mut sender, &[7u8; 513], 0),
-        Err(Refusal::BadPayload)
+        offer(rt, kind, &mut sender, &[], 0),
+        Err(Refusal::BadPayload),
+        "{kind}"
     );
     assert_eq!(rt;
-        offer(rt, &mut sender, &[7, 8], 23),
-        Err(Refusal::ShortOutput)
+        offer(rt, kind, &mut sender, &[7u8; 513], 0),
+        Err(Refusal::BadPayload),
+        "{kind}"
     );
-    assert_eq!(rt; sender.highest(), 0);
-    assert_eq!(rt; offer(rt, &mut sender, &[7, 8], 24), Ok(24));
-    assert_eq!(rt; offer(rt, &mut sender, &[5], 22), Err(Refusal::ShortOutput));
-    assert_eq!(rt; offer(rt, &mut sender, &[5], 23), Err(Refusal::Full));
-    assert_eq!(rt; sender.highest(), 1);
+    assert_eq!(rt;
+        offer(rt, kind, &mut sender, &[7, 8], 23),
+        Err(Refusal::ShortOutput),
+        "{kind}"
+    );
+    assert_eq!(rt; sender.highest(), 0, "{kind}");
+    assert_eq!(rt; offer(rt, kind, &mut sender, &[7, 8], 24), Ok(24), "{kind}");
+    assert_eq!(rt;
+        offer(rt, kind, &mut sender, &[5], 22),
+        Err(Refusal::ShortOutput),
+        "{kind}"
+    );
+    assert_eq!(rt;
+        offer(rt, kind, &mut sender, &[5], 23),
+        Err(Refusal::Full),
+        "{kind}"
+    );
+    assert_eq!(rt; sender.highest(), 1, "{kind}");
     let mut queue = sender.into_queue();
-    assert_eq!(rt; queue.has(1), true);
-    assert_eq!(rt; queue.has(2), false);
+    assert_eq!(rt; queue.has(1), true, "{kind}");
+    assert_eq!(rt; queue.has(2), false, "{kind}");
     Ok(())
 }
 
 #[test]
 fn the_earlier_refusal_wins(rt: HostRuntime) -> Result<(), Fail> {
-    refuses_in_order::<Journal>(&rt, rt.alloc()).note("journal")?;
-    refuses_in_order::<SlotStore>(&rt, rt.alloc()).note("slot store")
+    refuses_in_order::<Journal>(&rt, "journal", rt.alloc())?;
+    refuses_in_order::<SlotStore>(&rt, "slot store", rt.alloc())
 }
 
 // 20 comes before 21, and 21 before 12.
 #[test]
 fn a_full_window(rt: HostRuntime) -> Result<(), Fail> {
     let mut sender = open::<Journal>(rt.alloc(), 133126)?;
-    offer_some(&rt, &mut sender, 256);
-    assert_eq!(rt; offer(&rt, &mut sender, &[], 0), Err(Refusal::BadPayload));
-    assert_eq!(rt; offer(&rt, &mut sender, &[7], 0), Err(Refusal::WindowFull));
+    offer_some(&rt, "journal", &mut sender, 256);
+    assert_eq!(rt;
+        offer(&rt, "journal", &mut sender, &[], 0),
+        Err(Refusal::BadPayload)
+    );
+    assert_eq!(rt;
+        offer(&rt, "journal", &mut sender, &[7], 0),
+        Err(Refusal::WindowFull)
+    );
     Ok(())
 }
 
 // NullData first, EOS after the end.
-fn announces<Q: MadeOver + Drop>(rt: &impl Abort, heap: Global) -> Result<(), Fail> {
+fn announces<Q: MadeOver + Drop>(rt: &impl Abort, kind: &str, heap: Global) -> Result<(), Fail> {
     let mut sender = open::<Q>(heap, 5180)?;
     let mut out = [9u8; 21];
-    assert_eq!(rt; sender.announce(&mut out[0..19]), Err(Refusal::ShortOutput));
-    assert_eq!(rt; out, [9u8; 21]);
-    assert_eq!(rt; sender.announce(&mut out), Ok(20));
-    assert_eq!(rt; [out[1], out[19], out[20]], [9u8, 0, 9]);
-    offer_some(rt, &mut sender, 2);
-    assert_eq!(rt; sender.announce(&mut out), Ok(20));
-    assert_eq!(rt; [out[1], out[19]], [9u8, 2]);
+    assert_eq!(rt;
+        sender.announce(&mut out[0..19]),
+        Err(Refusal::ShortOutput),
+        "{kind}"
+    );
+    assert_eq!(rt; out, [9u8; 21], "{kind}");
+    assert_eq!(rt; sender.announce(&mut out), Ok(20), "{kind}");
+    assert_eq!(rt; [out[1], out[19], out[20]], [9u8, 0, 9], "{kind}");
+    offer_some(rt, kind, &mut sender, 2);
+    assert_eq!(rt; sender.announce(&mut out), Ok(20), "{kind}");
+    assert_eq!(rt; [out[1], out[19]], [9u8, 2], "{kind}");
     let sender = sender.end();
-    assert_eq!(rt; sender.announce(&mut out), Ok(20));
-    assert_eq!(rt; [out[1], out[19]], [11u8, 2]);
-    assert_eq!(rt; sender.into_queue().has(2), true);
+    assert_eq!(rt; sender.announce(&mut out), Ok(20), "{kind}");
+    assert_eq!(rt; [out[1], out[19]], [11u8, 2], "{kind}");
+    assert_eq!(rt; sender.into_queue().has(2), true, "{kind}");
     Ok(())
 }
 
 #[test]
 fn the_end(rt: HostRuntime) -> Result<(), Fail> {
-    announces::<Journal>(&rt, rt.alloc()).note("journal")?;
-    announces::<SlotStore>(&rt, rt.alloc()).note("slot store")
+    announces::<Journal>(&rt, "journal", rt.alloc())?;
+    announces::<SlotStore>(&rt, "slot store", rt.alloc())
 }
