@@ -1,46 +1,45 @@
 -- Which packets a control node takes, and from whom. Assumes nothing.
-use Rattle.std.specs.Prelude.{ℕ, Bool, true, false, ◌&&◌, ◌||◌, List, [], ◌∷◌, ◌==◌}
+use Rattle.std.specs.Prelude.{ℕ, Bool, cond, List, is_some, Some, None, Option}
 use Rattle.wire.specs.declared.packet.Body.{Body}
 use Rattle.wire.specs.declared.packet.Body.TheVariants as body
 use Rattle.wire.specs.declared.packet.Message.{Message}
-use Rattle.rows.specs.declared.row.FromChild.TheVariants as child
-use Rattle.member.specs.declared.types.FromParent.TheVariants as parent
-use Rattle.member.specs.declared.types.Identity.{Identity}
-use Rattle.member.specs.declared.types.Upper.{Upper}
-use Rattle.member.specs.declared.types.Upper.TheVariants.{Parent, Sender}
+use Rattle.rows.specs.declared.row.FromChild.{FromChild}
+use Rattle.rows.specs.declared.row.FromChild.TheVariants.{JoinStream, LeaveStream, Hack, HeartbeatResponse}
+use Rattle.rows.specs.Tables.{slot_of}
+use Rattle.member.specs.declared.member.Member.{Member}
+use Rattle.member.specs.declared.types.FromParent.{FromParent}
+use Rattle.member.specs.Parents.{is_parent, parent_packet}
 use Rattle.control.specs.declared.taking.Incoming.{Incoming}
-use Rattle.control.specs.declared.taking.Incoming.TheVariants as from
+use Rattle.control.specs.declared.taking.Incoming.TheVariants.{Parent, Child}
+use Rattle.control.specs.Controls.{SeenRows}
 
--- by the type alone: types 3, 4, 7 and 12 come from children, types 5, 6, 8, 10 and 13 from the parent
-abbrev pub incoming_of : Body (List ℕ) → Incoming
-incoming_of (body.Data n p) = from.NotTaken
-incoming_of (body.Retransmission n p) = from.NotTaken
-incoming_of (body.Hack h) = from.Child (child.Hack h)
-incoming_of (body.JoinStream t) = from.Child (child.JoinStream t)
-incoming_of (body.JoinAck t) = from.Parent (parent.JoinAck t)
-incoming_of (body.JoinConfirm t start slot) = from.Parent (parent.JoinConfirm t start slot)
-incoming_of (body.LeaveStream t) = from.Child (child.LeaveStream t)
-incoming_of (body.Heartbeat clock) = from.Parent (parent.Heartbeat clock)
-incoming_of (body.NullData n) = from.NotTaken
-incoming_of (body.Eject t) = from.Parent (parent.Eject t)
-incoming_of (body.Eos n) = from.NotTaken
-incoming_of (body.HeartbeatResponse t clock) = from.Child (child.HeartbeatResponse t)
-incoming_of (body.LeaveConfirm t) = from.Parent (parent.LeaveConfirm t)
+-- a child's packet, by its type alone: types 3, 4, 7 and 12
+abbrev pub child_packet : Body (List ℕ) → Option FromChild
+child_packet (body.Data n p) = None
+child_packet (body.Retransmission n p) = None
+child_packet (body.Hack h) = Some (Hack h)
+child_packet (body.JoinStream t) = Some (JoinStream t)
+child_packet (body.JoinAck t) = None
+child_packet (body.JoinConfirm t start slot) = None
+child_packet (body.LeaveStream t) = Some (LeaveStream t)
+child_packet (body.Heartbeat clock) = None
+child_packet (body.NullData n) = None
+child_packet (body.Eject t) = None
+child_packet (body.Eos n) = None
+child_packet (body.HeartbeatResponse t clock) = Some (HeartbeatResponse t)
+child_packet (body.LeaveConfirm t) = None
 
-abbrev pub is_parent : Upper → ℕ → Bool
-is_parent (Parent n) writer = n == writer
-is_parent (Sender n) writer = false
+abbrev pub as_parents : Option FromParent → Option Incoming
+as_parents None = None
+as_parents (Some x) = Some (Parent x)
 
-abbrev pub same_bytes : List ℕ → List ℕ → Bool
-same_bytes [] [] = true
-same_bytes [] (y ∷ ys) = false
-same_bytes (x ∷ xs) [] = false
-same_bytes (x ∷ xs) (y ∷ ys) = x == y && same_bytes xs ys
+abbrev pub as_childs : Option FromChild → Option Incoming
+as_childs None = None
+as_childs (Some x) = Some (Child x)
 
--- a packet of this tree and stream
-abbrev pub same_stream : Identity → Message (List ℕ) → Bool
-same_stream i p = same_bytes p.tree.0 i.tree.0 && p.stream == i.stream
+-- the parent's types from the parent, the children's from a child, and nothing from any other writer
+abbrev pub taken_from : Bool → Bool → Body (List ℕ) → Option Incoming
+taken_from parent child b = cond parent (as_parents (parent_packet b)) (cond child (as_childs (child_packet b)) None)
 
--- for all, or for this node
-abbrev pub for_node : Identity → Message (List ℕ) → Bool
-for_node i p = p.addressee == 0 || p.addressee == i.number
+abbrev pub takes : Member SeenRows → Message (List ℕ) → Option Incoming
+takes m p = taken_from (is_parent m.identity.upper p.writer) (is_some (slot_of p.writer m.kind.table)) p.body

@@ -1,4 +1,9 @@
 pub mod Controls
 pub mod Incomings
 pub mod Nodes
+pub mod Sounds
+pub mod Keeping
+pub mod LiveRows
+pub mod Summaries
 pub mod Floors
+pub mod Decisions

@@ -1,9 +1,10 @@
 // The kind of member that a control node is: it vouches for what all its live rows vouch for.
 ghost use Rattle.std.specs.Prelude.{◌≡◌, ℕ, ◌-◌};
 ghost use Rattle.rows.specs.Tables.{any_live};
-ghost use Rattle.control.specs.Controls.{SeenRows, rows_seen, rows_entered, rows_exited, rows_summary, rows_settled, RowsSound};
+ghost use Rattle.control.specs.Controls.{SeenRows, rows_seen, rows_entered, rows_exited, rows_summary, rows_settled, RowsSound, RowsIdle};
+ghost use Rattle.control.specs.Keeping;
+ghost use Rattle.control.specs.Summaries.{rows_settle, rows_rise, rows_fit};
 ghost use Rattle.std.proofs.Common.{arith, rules};
-ghost use Rattle.control.specs.Floors.{low_rises};
 
 use member::kind::Kind;
 use member::types::Summary;
@@ -35,9 +36,21 @@ impl Kind for Rows<RowTable> {
 
     ghost Sound = { RowsSound };
 
+    ghost Idle = { RowsIdle };
+
     ghost starts = { Prim.search rules };
 
-    ghost rises = { λ x sound. let r = low_rises x.low x.table sound in omega arith };
+    ghost enters = { Keeping.enters };
+
+    ghost exits = { Keeping.exits };
+
+    ghost leaves = { Keeping.leaves };
+
+    ghost settles = { rows_settle };
+
+    ghost rises = { λ start x sound. let r = rows_rise start x sound in omega arith };
+
+    ghost fits = { rows_fit };
 
     fn enter(&mut self, start: u32) {
         self.low = start;

@@ -1,52 +1,93 @@
 // A control node, or the top: its calls over bytes.
-ghost use Rattle.std.specs.Prelude.{◌≡◌, ℕ, is_ok};
+ghost use Rattle.std.specs.Prelude.{◌≡◌, ℕ, true, false, List, map, is_ok, IfOk, Ok};
 ghost use Rattle.wire.specs.Decoding.{decode};
 ghost use Rattle.wire.specs.Encoding.{encode, buffer_after};
 ghost use Rattle.wire.specs.Plain.{plain_packet};
-ghost use Rattle.rows.specs.Tables.{rows_of, any_live};
-ghost use Rattle.member.specs.Members.{join_packet, join_answer, join_after, leave_packet, leave_answer, leave_after, report_answer, report_after, report_bytes};
-ghost use Rattle.control.specs.Controls.{rows_entered, rows_exited, rows_summary, rows_settled};
-ghost use Rattle.control.specs.Nodes.{control_seen, new_control, control_busy, ticked, beat_packet, beat_answer, admission, acceptance, term_from, reply_of, response_of, reply_length, reply_buffer, deliver_answer, deliver_after, deliver_buffer};
+ghost use Rattle.wire.specs.declared.packet.Message.{Message};
+ghost use Rattle.address.specs.Deliveries.{admission};
+ghost use Rattle.address.specs.Sounds.{WithinRange};
+ghost use Rattle.rows.specs.Rows.{new_row};
+ghost use Rattle.rows.specs.Tables.{rows_of, has_live_row};
+ghost use Rattle.member.specs.Checks.{good_making};
+ghost use Rattle.member.specs.Members.{member_seen, join_packet, join_answer, join_after, leave_packet, leave_answer, leave_after, report_answer, report_after, report_bytes};
+ghost use Rattle.member.specs.Parents.{is_parent};
+ghost use Rattle.control.specs.Controls.{rows_seen, rows_entered, rows_exited, rows_summary, rows_settled};
+ghost use Rattle.control.specs.Incomings.{takes};
+ghost use Rattle.control.specs.Nodes.{control_seen, new_control, control_busy, ticked, beat_packet, beat_answer, term_from, reply_of, accepts, deliver_answer, deliver_after, deliver_buffer};
+ghost use Rattle.control.specs.Sounds.{ControlSound, ReplyInRange, OneRowChanged, IncomingFits};
 
 use crate::kind::Rows;
-use crate::taking::{Incoming, classify, for_node, from_parent, of_stream};
+use crate::taking::{Incoming, taken_from};
+use address::REPLY_ROOM;
 use answer::{Delivered, Outcome, Refusal};
 use member::member::Member;
-use member::types::{FromParent, Identity, Response, Standing};
+use member::parent::response_body;
+use member::types::{FromParent, Identity, Standing};
 use rows::row::{FromChild, Reply};
 use rows::table::RowTable;
 use std::convert::Infallible;
-use wire::{Body, Packet, read, write};
-
-// The longest reply is a JoinConfirm.
-const REPLY_ROOM: usize = 26;
+use wire::{Body, Packet, read};
 
 #[derive(Drop)]
 pub struct Control {
     member: Member<Rows<RowTable>>,
 }
 
+fn new_member(identity: Identity, table: RowTable) -> Member<Rows<RowTable>>
+    ensures { member_seen rows_seen result ≡ new_control identity (rows_of table) }
+{
+    let top = identity.upper.is_top();
+    Member {
+        identity,
+        standing: if top {
+            Standing::Joined
+        } else {
+            Standing::Outside
+        },
+        term: if top { 1 } else { 0 },
+        start: 1,
+        slot: 0,
+        serial: 0,
+        heard: 0,
+        kind: Rows { low: 1, table },
+    }
+}
+
 impl Control {
     // A node that was never joined, or a top, which always is. It refuses nothing.
     pub fn new(identity: Identity, table: RowTable) -> Control
-        ensures { control_seen result ≡ new_control identity (rows_of table) }
+        ensures is { control_seen result ≡ new_control identity (rows_of table) }
+        ensures sound { (most rate : ℕ) (children : List ℕ) → good_making identity most rate children ≡ true → rows_of table ≡ map new_row children → ControlSound (control_seen result) }
     {
-        let top = identity.upper.is_top();
-        let member = Member {
-            identity,
-            standing: if top {
-                Standing::Joined
-            } else {
-                Standing::Outside
-            },
-            term: if top { 1 } else { 0 },
-            start: 1,
-            slot: 0,
-            serial: 0,
-            heard: 0,
-            kind: Rows { low: 1, table },
-        };
-        Control { member }
+        Control {
+            member: new_member(identity, table),
+        }
+    }
+
+    // What never changes of the node.
+    pub fn identity(&self) -> Identity
+        ensures { result ≡ (control_seen self.now).identity }
+    {
+        self.member.identity
+    }
+
+    pub fn standing(&self) -> Standing
+        ensures { result ≡ (control_seen self.now).standing }
+    {
+        self.member.standing
+    }
+
+    pub fn term(&self) -> u32
+        ensures { result ≡ (control_seen self.now).term }
+    {
+        self.member.term
+    }
+
+    // Whether a child has a live row with this term.
+    pub fn has_live(&self, child: u16, term: u32) -> bool
+        ensures { result ≡ has_live_row child term (control_seen self.now).kind.table }
+    {
+        self.member.kind.table.has_live(child, term)
     }
 
     // Asks the parent to be let in.
@@ -54,6 +95,8 @@ impl Control {
         ensures answer { result ≡ join_answer (control_seen self.old).standing (control_seen self.old) out.old }
         ensures after { control_seen self.new ≡ join_after (is_ok result) (control_seen self.old) }
         ensures buffer { out.new ≡ buffer_after result (encode (join_packet (control_seen self.old))) out.old }
+        ensures keeps { ControlSound (control_seen self.old) → ControlSound (control_seen self.new) }
+        ensures in_range { ControlSound (control_seen self.old) → WithinRange result }
     {
         self.member.join(out)
     }
@@ -63,6 +106,8 @@ impl Control {
         ensures answer { result ≡ leave_answer control_busy (control_seen self.old) out.old }
         ensures after { control_seen self.new ≡ leave_after rows_exited (is_ok result) (control_seen self.old) }
         ensures buffer { out.new ≡ buffer_after result (encode (leave_packet (control_seen self.old))) out.old }
+        ensures keeps { ControlSound (control_seen self.old) → ControlSound (control_seen self.new) }
+        ensures in_range { ControlSound (control_seen self.old) → WithinRange result }
     {
         self.member.leave(out)
     }
@@ -72,13 +117,16 @@ impl Control {
         ensures answer { result ≡ report_answer rows_summary (control_seen self.old) out.old }
         ensures after { control_seen self.new ≡ report_after rows_settled (is_ok result) (control_seen self.old) }
         ensures buffer { out.new ≡ buffer_after result (report_bytes (rows_summary (control_seen self.old).kind) (control_seen self.old)) out.old }
+        ensures keeps { ControlSound (control_seen self.old) → ControlSound (control_seen self.new) }
+        ensures in_range { ControlSound (control_seen self.old) → WithinRange result }
     {
         self.member.report(out)
     }
 
     // Goes outside with all rows if the parent is silent; else rows that are silent die.
     pub fn tick(&mut self, clock: u32)
-        ensures { control_seen self.new ≡ ticked clock (control_seen self.old) }
+        ensures after { control_seen self.new ≡ ticked clock (control_seen self.old) }
+        ensures keeps { ControlSound (control_seen self.old) → ControlSound (control_seen self.new) }
     {
         if !self.member.tick(clock) {
             let limit = self.member.identity.limit;
@@ -90,43 +138,29 @@ impl Control {
     pub fn beat(&self, clock: u32, out: &mut [u8]) -> Result<usize, Refusal>
         ensures answer { result ≡ beat_answer clock (control_seen self.now) out.old }
         ensures buffer { out.new ≡ buffer_after result (encode (beat_packet clock (control_seen self.now))) out.old }
+        ensures in_range { ControlSound (control_seen self.now) → WithinRange result }
     {
         if !self.member.standing.is_joined() {
             return Err(Refusal::WrongStanding);
         }
-        let Identity {
-            tree,
-            stream,
-            number,
-            ..
-        } = self.member.identity;
-        write(
-            &Packet::bare(tree, stream, number, 0, Body::Heartbeat { clock }),
-            out,
-        )
+        self.member
+            .identity
+            .address
+            .write_to(0, Body::Heartbeat { clock }, out)
     }
 
     // Whether a packet is for this node, from one that it takes such packets from.
     fn admit(&self, packet: &Packet<'_>) -> Result<Incoming, Refusal>
-        ensures { result ≡ admission (control_seen self.now) (plain_packet packet.now) }
+        ensures fits { IfOk result IncomingFits }
+        ensures is { result ≡ admission (control_seen self.now).identity.address (takes (control_seen self.now)) (plain_packet packet.now) }
     {
         let identity = self.member.identity;
-        if !of_stream(identity, packet) {
-            return Err(Refusal::OtherStream);
-        }
-        if !for_node(identity, packet) {
-            return Err(Refusal::OtherAddressee);
-        }
-        let incoming = classify(&packet.body);
-        let takes = match incoming {
-            Incoming::Parent(_) => from_parent(identity.upper, packet.writer),
-            Incoming::Child(_) => self.member.kind.table.slot_of(packet.writer).is_some(),
-            Incoming::NotTaken => false,
-        };
-        if takes {
-            Ok(incoming)
-        } else {
-            Err(Refusal::NotTaken)
+        identity.address.check(packet)?;
+        let parent = identity.upper.is_parent(packet.writer);
+        let child = self.member.kind.table.slot_of(packet.writer).is_some();
+        match taken_from(parent, child, &packet.body) {
+            Some(incoming) => Ok(incoming),
+            None => Err(Refusal::NotTaken),
         }
     }
 
@@ -136,8 +170,8 @@ impl Control {
         packet: FromChild,
         clock: u32,
     ) -> (Outcome, Option<Body<Infallible>>)
-        ensures after { control_seen self.new ≡ (acceptance clock (control_seen self.old) writer (Incoming.Child packet)).member }
-        ensures answer { result ≡ ((acceptance clock (control_seen self.old) writer (Incoming.Child packet)).outcome, (acceptance clock (control_seen self.old) writer (Incoming.Child packet)).reply) }
+        ensures after { control_seen self.new ≡ (accepts clock (control_seen self.old) writer (Incoming.Child packet)).node }
+        ensures answer { result ≡ ((accepts clock (control_seen self.old) writer (Incoming.Child packet)).outcome, (accepts clock (control_seen self.old) writer (Incoming.Child packet)).reply) }
     {
         let joined = self.member.standing.is_joined();
         let low = self.member.kind.low;
@@ -161,8 +195,8 @@ impl Control {
         packet: FromParent,
         clock: u32,
     ) -> (Outcome, Option<Body<Infallible>>)
-        ensures after { control_seen self.new ≡ (acceptance clock (control_seen self.old) writer (Incoming.Parent packet)).member }
-        ensures answer { result ≡ ((acceptance clock (control_seen self.old) writer (Incoming.Parent packet)).outcome, (acceptance clock (control_seen self.old) writer (Incoming.Parent packet)).reply) }
+        ensures after { control_seen self.new ≡ (accepts clock (control_seen self.old) writer (Incoming.Parent packet)).node }
+        ensures answer { result ≡ ((accepts clock (control_seen self.old) writer (Incoming.Parent packet)).outcome, (accepts clock (control_seen self.old) writer (Incoming.Parent packet)).reply) }
     {
         let heard = self.member.take(packet, clock);
         (heard.outcome, response_body(heard.response))
@@ -174,13 +208,12 @@ impl Control {
         incoming: Incoming,
         clock: u32,
     ) -> (Outcome, Option<Body<Infallible>>)
-        ensures after { control_seen self.new ≡ (acceptance clock (control_seen self.old) writer incoming).member }
-        ensures answer { result ≡ ((acceptance clock (control_seen self.old) writer incoming).outcome, (acceptance clock (control_seen self.old) writer incoming).reply) }
+        ensures after { control_seen self.new ≡ (accepts clock (control_seen self.old) writer incoming).node }
+        ensures answer { result ≡ ((accepts clock (control_seen self.old) writer incoming).outcome, (accepts clock (control_seen self.old) writer incoming).reply) }
     {
         match incoming {
             Incoming::Parent(packet) => self.from_parent(writer, packet, clock),
             Incoming::Child(packet) => self.from_child(writer, packet, clock),
-            Incoming::NotTaken => (Outcome::Stale, None),
         }
     }
 
@@ -194,16 +227,19 @@ impl Control {
         ensures answer { result ≡ deliver_answer clock (control_seen self.old) (decode bytes.now) reply.old }
         ensures after { control_seen self.new ≡ deliver_after clock (is_ok result) (control_seen self.old) (decode bytes.now) }
         ensures buffer { reply.new ≡ deliver_buffer clock (is_ok result) (control_seen self.old) (decode bytes.now) reply.old }
+        ensures keeps { ControlSound (control_seen self.old) → ControlSound (control_seen self.new) }
+        ensures one_row { (p : Message (List ℕ)) → decode bytes.now ≡ Ok p → is_parent (control_seen self.old).identity.upper p.writer ≡ false → OneRowChanged p.writer (control_seen self.old) (control_seen self.new) }
+        ensures replies { ControlSound (control_seen self.old) → ReplyInRange clock (control_seen self.old) (decode bytes.now) }
     {
         let packet = read(bytes)?;
         let incoming = self.admit(&packet)?;
         if reply.len() < REPLY_ROOM {
             return Err(Refusal::ShortOutput);
         }
-        let identity = self.member.identity;
+        let address = self.member.identity.address;
         let writer = packet.writer;
         let (outcome, body) = self.accept(writer, incoming, clock);
-        let len = write_reply(identity, writer, body, reply);
+        let len = address.write_reply(writer, body, reply);
         Ok(Delivered {
             outcome,
             reply: len,
@@ -234,43 +270,5 @@ fn reply_body(term: u32, reply: Option<Reply>) -> Option<Body<Infallible>>
         }
         Some(Reply::Eject) => Some(Body::Eject { term }),
         Some(Reply::LeaveConfirm) => Some(Body::LeaveConfirm { term }),
-    }
-}
-
-fn response_body(response: Option<Response>) -> Option<Body<Infallible>>
-    ensures { result ≡ response_of response }
-{
-    match response {
-        None => None,
-        Some(response) => Some(Body::HeartbeatResponse {
-            term: response.term,
-            clock: response.clock,
-        }),
-    }
-}
-
-// Writes a reply, if there is one, and answers its length.
-fn write_reply(
-    identity: Identity,
-    writer: u16,
-    reply: Option<Body<Infallible>>,
-    out: &mut [u8],
-) -> usize
-    ensures answer { result ≡ reply_length identity writer reply out.old }
-    ensures buffer { out.new ≡ reply_buffer identity writer reply out.old }
-{
-    let Some(body) = reply else {
-        return 0;
-    };
-    let packet = Packet::bare(
-        identity.tree,
-        identity.stream,
-        identity.number,
-        writer,
-        body,
-    );
-    match write(&packet, out) {
-        Ok(len) => len,
-        Err(_) => 0,
     }
 }

@@ -1,70 +1,68 @@
-// Which packets a control node takes, and from whom.
-ghost use Rattle.std.specs.Prelude.{◌≡◌, is_some};
-ghost use Rattle.wire.specs.Plain.{plain_body, plain_packet};
-ghost use Rattle.member.specs.Members.{upper_number};
+// Which packets come from a child, and what a control node knows a packet as.
+ghost use Rattle.std.specs.Prelude.{◌≡◌, IfSome};
+ghost use Rattle.wire.specs.Plain.{plain_body};
 ghost use Rattle.control.specs.Controls.{SeenRows};
-ghost use Rattle.control.specs.Incomings.{incoming_of, is_parent, same_stream, for_node};
+ghost use Rattle.control.specs.Incomings.{child_packet, taken_from};
+ghost use Rattle.control.specs.Sounds.{IncomingFits};
 
-use member::types::{FromParent, Identity, Upper};
+use member::parent::parent_packet;
+use member::types::FromParent;
 use rows::row::FromChild;
-use wire::{Body, Packet};
+use wire::Body;
 
 #[derive(Clone, Copy)]
 pub enum Incoming {
     Parent(FromParent),
     Child(FromChild),
-    NotTaken,
 }
 
-// A packet by its type alone.
-pub(crate) fn classify(body: &Body<&[u8]>) -> Incoming
-    ensures { result ≡ incoming_of (plain_body body.now) }
+// A packet as one of a child's, by its type alone.
+fn child_packet(body: &Body<&[u8]>) -> Option<FromChild>
+    ensures { result ≡ child_packet (plain_body body.now) }
 {
     match *body {
-        Body::Hack(hack) => Incoming::Child(FromChild::Hack(hack)),
-        Body::JoinStream { term } => Incoming::Child(FromChild::JoinStream { term }),
-        Body::LeaveStream { term } => Incoming::Child(FromChild::LeaveStream { term }),
-        Body::HeartbeatResponse { term, clock: _ } => {
-            Incoming::Child(FromChild::HeartbeatResponse { term })
-        }
-        Body::JoinAck { term } => Incoming::Parent(FromParent::JoinAck { term }),
-        Body::JoinConfirm { term, start, slot } => {
-            Incoming::Parent(FromParent::JoinConfirm { term, start, slot })
-        }
-        Body::Heartbeat { clock } => Incoming::Parent(FromParent::Heartbeat { clock }),
-        Body::Eject { term } => Incoming::Parent(FromParent::Eject { term }),
-        Body::LeaveConfirm { term } => Incoming::Parent(FromParent::LeaveConfirm { term }),
+        Body::Hack(hack) => Some(FromChild::Hack(hack)),
+        Body::JoinStream { term } => Some(FromChild::JoinStream { term }),
+        Body::LeaveStream { term } => Some(FromChild::LeaveStream { term }),
+        Body::HeartbeatResponse { term, clock: _ } => Some(FromChild::HeartbeatResponse { term }),
         Body::Data {
             number: _,
             payload: _,
-        } => Incoming::NotTaken,
+        } => None,
         Body::Retransmission {
             number: _,
             payload: _,
-        } => Incoming::NotTaken,
-        Body::NullData { highest: _ } => Incoming::NotTaken,
-        Body::Eos { highest: _ } => Incoming::NotTaken,
+        } => None,
+        Body::JoinAck { term: _ } => None,
+        Body::JoinConfirm {
+            term: _,
+            start: _,
+            slot: _,
+        } => None,
+        Body::Heartbeat { clock: _ } => None,
+        Body::NullData { highest: _ } => None,
+        Body::Eject { term: _ } => None,
+        Body::Eos { highest: _ } => None,
+        Body::LeaveConfirm { term: _ } => None,
     }
 }
 
-// Whether a node is the parent.
-pub(crate) fn from_parent(upper: Upper, writer: u16) -> bool
-    ensures { result ≡ is_parent upper writer }
+// What a packet is to the node, by whether its writer is the parent or a child.
+pub(crate) fn taken_from(parent: bool, child: bool, body: &Body<&[u8]>) -> Option<Incoming>
+    ensures fits { IfSome result IncomingFits }
+    ensures is { result ≡ taken_from parent child (plain_body body.now) }
 {
-    match upper {
-        Upper::Parent(number) => number == writer,
-        Upper::Sender(_) => false,
+    if parent {
+        return match parent_packet(body) {
+            Some(packet) => Some(Incoming::Parent(packet)),
+            None => None,
+        };
     }
-}
-
-pub(crate) fn of_stream(identity: Identity, packet: &Packet<'_>) -> bool
-    ensures { result ≡ same_stream identity (plain_packet packet.now) }
-{
-    packet.tree == identity.tree && packet.stream == identity.stream
-}
-
-pub(crate) fn for_node(identity: Identity, packet: &Packet<'_>) -> bool
-    ensures { result ≡ for_node identity (plain_packet packet.now) }
-{
-    packet.addressee == 0 || packet.addressee == identity.number
+    if !child {
+        return None;
+    }
+    match child_packet(body) {
+        Some(packet) => Some(Incoming::Child(packet)),
+        None => None,
+    }
 }

@@ -1,2 +1,4 @@
 pub mod Members
 pub mod Checks
+pub mod Parents
+pub mod Sounds

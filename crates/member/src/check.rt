@@ -41,10 +41,10 @@ pub fn check(identity: Identity, most: u16, rate: u16, others: &[u16]) -> Result
     if most == 0 || most > 16 || rate == 0 || rate > 9999 {
         return Err(Refusal::OutOfRange);
     }
-    if identity.stream < 32768 || others.len() > most as usize {
+    if identity.address.stream < 32768 || others.len() > most as usize {
         return Err(Refusal::OutOfRange);
     }
-    let own = identity.number;
+    let own = identity.address.number;
     let upper = identity.upper.number();
     if own == 0 || upper == 0 || own == upper || !are_distinct(others) {
         return Err(Refusal::OutOfRange);

@@ -1,6 +1,7 @@
 // What differs between the kinds of member: what joining, leaving and reporting make of each.
-ghost use Rattle.std.specs.Prelude.{◌≡◌, ℕ, ◌+◌, ◌<◌, ◌≤◌, Bool, Option};
+ghost use Rattle.std.specs.Prelude.{◌≡◌, ℕ, ◌+◌, ◌<◌, ◌≤◌, Bool, Some, Option};
 ghost use Rattle.member.specs.declared.types.Summary.{Summary};
+ghost use Rattle.member.specs.Sounds.{Reportable};
 
 use crate::types::Summary;
 
@@ -22,8 +23,10 @@ pub trait Kind {
 
     ghost settled: { Seen → Seen };
 
-    // what a kind keeps true of itself while joined
-    ghost Sound: { Seen → Type 0 };
+    // what a kind keeps true of itself while joined, since its start, and while it is not joined
+    ghost Sound: { ℕ → Seen → Type 0 };
+
+    ghost Idle: { Seen → Type 0 };
 
     // The member joins: it answers for numbers from `start` on.
     fn enter(&mut self, start: u32)
@@ -49,6 +52,17 @@ pub trait Kind {
     // joining vouches for all below its start
     ghost starts: { (start : ℕ) (x : Seen) → start ≤ floor (entered start x) + 1 };
 
+    ghost enters: { (start : ℕ) (x : Seen) → 1 ≤ start → start ≤ 4294967295 → Idle x → Sound start (entered start x) };
+
+    ghost exits: { (start : ℕ) (x : Seen) → Sound start x → Idle (exited x) };
+
+    ghost leaves: { (x : Seen) → Idle x → Idle (exited x) };
+
+    ghost settles: { (start : ℕ) (x : Seen) → Sound start x → Sound start (settled x) };
+
     // a report never lowers the floor
-    ghost rises: { (x : Seen) → Sound x → floor x ≤ floor (settled x) };
+    ghost rises: { (start : ℕ) (x : Seen) → Sound start x → floor x ≤ floor (settled x) };
+
+    // and is never out of range
+    ghost fits: { (start : ℕ) (x : Seen) (s : Summary) → Sound start x → summary x ≡ Some s → Reportable s };
 }

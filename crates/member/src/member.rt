@@ -1,13 +1,14 @@
 // A member of the tree: how it joins, leaves, falls silent and reports, whatever its kind.
 ghost use Rattle.std.specs.Prelude.{◌≡◌, ℕ, ◌≤◌, is_ok};
 ghost use Rattle.wire.specs.Encoding.{encode, buffer_after};
-ghost use Rattle.member.specs.Members.{member_seen, upper_number, is_top, is_joined, up_packet, written, join_packet, join_answer, join_after, leave_packet, leave_answer, leave_after, goes_silent, tick_after, report_answer, report_after, report_bytes, admitted, heard};
+ghost use Rattle.address.specs.Addresses.{written};
+ghost use Rattle.member.specs.Members.{member_seen, upper_number, is_top, is_joined, up_packet, join_packet, join_answer, join_after, leave_packet, leave_answer, leave_after, goes_silent, tick_after, report_answer, report_after, report_bytes, admitted, heard};
 
 use crate::kind::Kind;
 use crate::types::{FromParent, Heard, Identity, Response, Standing, Summary, Upper};
 use answer::{Outcome, Refusal};
 use std::convert::Infallible;
-use wire::{Body, Hack, Packet, write};
+use wire::{Body, Hack};
 
 #[derive(Drop)]
 pub struct Member<K> {
@@ -59,11 +60,7 @@ impl Identity {
         ensures answer { result ≡ written (up_packet self body) out.old }
         ensures buffer { out.new ≡ buffer_after result (encode (up_packet self body)) out.old }
     {
-        let to = self.upper.number();
-        write(
-            &Packet::bare(self.tree, self.stream, self.number, to, body),
-            out,
-        )
+        self.address.write_to(self.upper.number(), body, out)
     }
 }
 
@@ -131,7 +128,7 @@ impl<K: Kind> Member<K> {
         ensures answer { result ≡ report_answer K.Kind.summary (member_seen K.Kind.seen self.old) out.old }
         ensures after { member_seen K.Kind.seen self.new ≡ report_after K.Kind.settled (is_ok result) (member_seen K.Kind.seen self.old) }
         ensures buffer { out.new ≡ buffer_after result (report_bytes (K.Kind.summary (K.Kind.seen self.old.kind)) (member_seen K.Kind.seen self.old)) out.old }
-        ensures rises { K.Kind.Sound (K.Kind.seen self.old.kind) → K.Kind.floor (K.Kind.seen self.old.kind) ≤ K.Kind.floor (K.Kind.seen self.new.kind) }
+        ensures rises { K.Kind.Sound self.old.start (K.Kind.seen self.old.kind) → K.Kind.floor (K.Kind.seen self.old.kind) ≤ K.Kind.floor (K.Kind.seen self.new.kind) }
     {
         if !self.standing.is_joined() {
             return Err(Refusal::WrongStanding);

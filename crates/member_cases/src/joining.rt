@@ -1,4 +1,5 @@
 // A control node, number 5 below node 2, with children 7 and 8. Node 2 with node 1 above is the top.
+use address::Address;
 use answer::{Outcome, Refusal};
 use control::kind::Rows;
 use member::member::Member;
@@ -20,9 +21,11 @@ fn made(
     term: u32,
 ) -> Result<Control, Fail> {
     let identity = Identity {
-        tree: TreeId([1, 2, 3, 4, 5, 6]),
-        stream: 40000,
-        number,
+        address: Address {
+            tree: TreeId([1, 2, 3, 4, 5, 6]),
+            stream: 40000,
+            number,
+        },
         upper,
         limit: 5000,
     };

@@ -1,4 +1,5 @@
 // A control node over bytes: tree 1 to 6, stream 40000, number 5 below node 2, children 7 and 8.
+use address::Address;
 use answer::{Delivered, Outcome, Refusal};
 use control::node::Control;
 use member::check::check as check_making;
@@ -11,9 +12,11 @@ use std::test::Fail;
 use wire::{Body, Hack, Packet, TreeId, write};
 
 const NODE: Identity = Identity {
-    tree: TreeId([1, 2, 3, 4, 5, 6]),
-    stream: 40000,
-    number: 5,
+    address: Address {
+        tree: TreeId([1, 2, 3, 4, 5, 6]),
+        stream: 40000,
+        number: 5,
+    },
     upper: Upper::Parent(2),
     limit: 5000,
 };
@@ -31,7 +34,10 @@ fn bring(
     reply: &mut [u8],
 ) -> Result<(u8, usize), Fail> {
     let mut bytes = [0u8; 74];
-    let len = write(&Packet::bare(NODE.tree, 40000, writer, 0, body), &mut bytes)?;
+    let len = write(
+        &Packet::bare(NODE.address.tree, 40000, writer, 0, body),
+        &mut bytes,
+    )?;
     Ok(told(node.deliver(clock, &bytes[0..len.min(74)], reply)))
 }
 
@@ -79,50 +85,42 @@ fn makings(rt: HostRuntime) {
     assert_eq!(rt; check_making(NODE, 2, 1, &[2]), Err(Refusal::OutOfRange));
 }
 
+// What the check says of this stream and these numbers.
+fn checked(stream: u16, number: u16, upper: Upper) -> Result<(), Refusal> {
+    let address = Address {
+        stream,
+        number,
+        ..NODE.address
+    };
+    check_making(
+        Identity {
+            address,
+            upper,
+            limit: 0,
+        },
+        2,
+        1,
+        &[],
+    )
+}
+
 #[test]
 fn numbers_and_stream(rt: HostRuntime) {
+    assert_eq!(rt; checked(32768, 5, Upper::Parent(2)), Ok(()));
     assert_eq!(rt;
-        check_making(
-            Identity {
-                stream: 32768,
-                ..NODE
-            },
-            2,
-            1,
-            &[],
-        ),
-        Ok(())
-    );
-    assert_eq!(rt;
-        check_making(
-            Identity {
-                stream: 32767,
-                ..NODE
-            },
-            2,
-            1,
-            &[],
-        ),
+        checked(32767, 5, Upper::Parent(2)),
         Err(Refusal::OutOfRange)
     );
     assert_eq!(rt;
-        check_making(Identity { number: 0, ..NODE }, 2, 1, &[]),
+        checked(32768, 0, Upper::Parent(2)),
         Err(Refusal::OutOfRange)
     );
     assert_eq!(rt;
-        check_making(Identity { number: 2, ..NODE }, 2, 1, &[]),
+        checked(32768, 2, Upper::Parent(2)),
         Err(Refusal::OutOfRange)
     );
     assert_eq!(rt;
-        check_making(
-            Identity {
-                upper: Upper::Sender(0),
-                ..NODE
-            },
-            2,
-            1,
-            &[],
-        ),
+        checked(32768, 5, Upper::Sender(0)),
         Err(Refusal::OutOfRange)
     );
 }
@@ -136,13 +134,25 @@ fn deliver_refuses(rt: HostRuntime) -> Result<(), Fail> {
     assert_eq!(rt; told(node.deliver(0, &bytes[0..15], &mut [])), (7, 0));
     let _ = write(&Packet::bare(TreeId([0; 6]), 40000, 99, 6, ask), &mut bytes)?;
     assert_eq!(rt; told(node.deliver(0, &bytes, &mut [])), (13, 0));
-    let _ = write(&Packet::bare(NODE.tree, 40001, 99, 6, ask), &mut bytes)?;
+    let _ = write(
+        &Packet::bare(NODE.address.tree, 40001, 99, 6, ask),
+        &mut bytes,
+    )?;
     assert_eq!(rt; told(node.deliver(0, &bytes, &mut [])), (13, 0));
-    let _ = write(&Packet::bare(NODE.tree, 40000, 99, 6, ask), &mut bytes)?;
+    let _ = write(
+        &Packet::bare(NODE.address.tree, 40000, 99, 6, ask),
+        &mut bytes,
+    )?;
     assert_eq!(rt; told(node.deliver(0, &bytes, &mut [])), (14, 0));
-    let _ = write(&Packet::bare(NODE.tree, 40000, 2, 5, ask), &mut bytes)?;
+    let _ = write(
+        &Packet::bare(NODE.address.tree, 40000, 2, 5, ask),
+        &mut bytes,
+    )?;
     assert_eq!(rt; told(node.deliver(0, &bytes, &mut [])), (15, 0));
-    let _ = write(&Packet::bare(NODE.tree, 40000, 7, 5, ask), &mut bytes)?;
+    let _ = write(
+        &Packet::bare(NODE.address.tree, 40000, 7, 5, ask),
+        &mut bytes,
+    )?;
     let mut reply = [170u8; 26];
     assert_eq!(rt; told(node.deliver(0, &bytes, &mut reply[0..25])), (12, 0));
     assert!(rt; reply == [170u8; 26]);

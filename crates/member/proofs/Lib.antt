@@ -1,0 +1,3 @@
+pub mod Sounds
+pub mod Hearing
+pub mod Given
