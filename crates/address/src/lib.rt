@@ -10,8 +10,9 @@ use answer::Refusal;
 use std::convert::Infallible;
 use wire::{Body, Packet, TreeId, write};
 
-// The longest reply, a JoinConfirm. Every deliver wants a buffer of this length, whether a reply comes or not.
-pub const REPLY_ROOM: usize = 26;
+mod delivery;
+
+pub use delivery::{Accepted, Node, REPLY_ROOM, deliver};
 
 // The tree and the stream that a node belongs to, and its number.
 #[derive(Clone, Copy)]
@@ -60,9 +61,6 @@ impl Address {
         let Some(body) = reply else {
             return 0;
         };
-        match self.write_to(to, body, out) {
-            Ok(len) => len,
-            Err(_) => 0,
-        }
+        self.write_to(to, body, out).unwrap_or(0)
     }
 }

@@ -1,46 +1,51 @@
 -- Which packets a control node takes, and from whom. Assumes nothing.
-use Rattle.std.specs.Prelude.{ℕ, Bool, true, false, ◌&&◌, ◌||◌, List, [], ◌∷◌, ◌==◌}
+use Rattle.std.specs.Prelude.{ℕ, Bool, cond, List, is_some, Some, None, Option}
 use Rattle.wire.specs.declared.packet.Body.{Body}
 use Rattle.wire.specs.declared.packet.Body.TheVariants as body
 use Rattle.wire.specs.declared.packet.Message.{Message}
-use Rattle.rows.specs.declared.row.FromChild.TheVariants as child
-use Rattle.member.specs.declared.types.FromParent.TheVariants as parent
-use Rattle.member.specs.declared.types.Identity.{Identity}
-use Rattle.member.specs.declared.types.Upper.{Upper}
-use Rattle.member.specs.declared.types.Upper.TheVariants.{Parent, Sender}
+use Rattle.rows.specs.declared.row.FromChild.{FromChild}
+use Rattle.rows.specs.declared.row.FromChild.TheVariants.{JoinStream, LeaveStream, Hack, HeartbeatResponse}
+use Rattle.rows.specs.Tables.{slot_of}
+use Rattle.member.specs.declared.member.Member.{Member}
+use Rattle.member.specs.declared.types.FromParent.{FromParent}
+use Rattle.member.specs.Parents.{is_parent, parent_packet}
 use Rattle.control.specs.declared.taking.Incoming.{Incoming}
-use Rattle.control.specs.declared.taking.Incoming.TheVariants as from
+use Rattle.control.specs.declared.taking.Incoming.TheVariants.{Parent, Child}
+use Rattle.control.specs.Controls.{SeenRows}
 
--- by the type alone: types 3, 4, 7 and 12 come from children, types 5, 6, 8, 10 and 13 from the parent
-abbrev pub incoming_of : Body (List ℕ) → Incoming
-incoming_of (body.Data n p) = from.NotTaken
-incoming_of (body.Retransmission n p) = from.NotTaken
-incoming_of (body.Hack h) = from.Child (child.Hack h)
-incoming_of (body.JoinStream t) = from.Child (child.JoinStream t)
-incoming_of (body.JoinAck t) = from.Parent (parent.JoinAck t)
-incoming_of (body.JoinConfirm t start slot) = from.Parent (parent.JoinConfirm t start slot)
-incoming_of (body.LeaveStream t) = from.Child (child.LeaveStream t)
-incoming_of (body.Heartbeat clock) = from.Parent (parent.Heartbeat clock)
-incoming_of (body.NullData n) = from.NotTaken
-incoming_of (body.Eject t) = from.Parent (parent.Eject t)
-incoming_of (body.Eos n) = from.NotTaken
-incoming_of (body.HeartbeatResponse t clock) = from.Child (child.HeartbeatResponse t)
-incoming_of (body.LeaveConfirm t) = from.Parent (parent.LeaveConfirm t)
+-- a child's packet, by its type alone: types 3, 4, 7 and 12
+abbrev pub child_packet : Body (List ℕ) → Option FromChild
+child_packet (body.Data n p) = None
+child_packet (body.Retransmission n p) = None
+child_packet (body.Hack h) = Some (Hack h)
+child_packet (body.JoinStream t) = Some (JoinStream t)
+child_packet (body.JoinAck t) = None
+child_packet (body.JoinConfirm t start slot) = None
+child_packet (body.LeaveStream t) = Some (LeaveStream t)
+child_packet (body.Heartbeat clock) = None
+child_packet (body.NullData n) = None
+child_packet (body.Eject t) = None
+child_packet (body.Eos n) = None
+child_packet (body.HeartbeatResponse t clock) = Some (HeartbeatResponse t)
+child_packet (body.LeaveConfirm t) = None
 
-abbrev pub is_parent : Upper → ℕ → Bool
-is_parent (Parent n) writer = n == writer
-is_parent (Sender n) writer = false
+-- a packet by its type alone: one of the parent's, one of a child's, or none that a control node takes
+abbrev pub known_as : Option FromParent → Option FromChild → Option Incoming
+known_as (Some x) child = Some (Parent x)
+known_as None (Some x) = Some (Child x)
+known_as None None = None
 
-abbrev pub same_bytes : List ℕ → List ℕ → Bool
-same_bytes [] [] = true
-same_bytes [] (y ∷ ys) = false
-same_bytes (x ∷ xs) [] = false
-same_bytes (x ∷ xs) (y ∷ ys) = x == y && same_bytes xs ys
+abbrev pub incoming_of : Body (List ℕ) → Option Incoming
+incoming_of b = known_as (parent_packet b) (child_packet b)
 
--- a packet of this tree and stream
-abbrev pub same_stream : Identity → Message (List ℕ) → Bool
-same_stream i p = same_bytes p.tree.0 i.tree.0 && p.stream == i.stream
+-- the parent's types come from the parent, and the children's from a child
+abbrev pub taken_from : Member SeenRows → ℕ → Incoming → Bool
+taken_from m writer (Parent x) = is_parent m.identity.upper writer
+taken_from m writer (Child x) = is_some (slot_of writer m.kind.table)
 
--- for all, or for this node
-abbrev pub for_node : Identity → Message (List ℕ) → Bool
-for_node i p = p.addressee == 0 || p.addressee == i.number
+abbrev pub if_taken : Member SeenRows → ℕ → Option Incoming → Option Incoming
+if_taken m writer None = None
+if_taken m writer (Some x) = cond (taken_from m writer x) (Some x) None
+
+abbrev pub takes : Member SeenRows → Message (List ℕ) → Option Incoming
+takes m p = if_taken m p.writer (incoming_of p.body)

@@ -52,9 +52,7 @@ impl Kind for Rows<RowTable> {
     }
 
     fn summarize(&mut self) -> Option<Summary> {
-        let Some((_, lsn)) = self.table.lowest() else {
-            return None;
-        };
+        let (_, lsn) = self.table.lowest()?;
         let hsn = self.table.highest().min(lsn.saturating_add(255));
         let flags = self.table.words(lsn);
         Some(Summary { lsn, hsn, flags })

@@ -2,24 +2,23 @@
 ghost use Rattle.std.specs.Prelude.{◌≡◌, ℕ, is_ok};
 ghost use Rattle.wire.specs.Decoding.{decode};
 ghost use Rattle.wire.specs.Encoding.{encode, buffer_after};
-ghost use Rattle.wire.specs.Plain.{plain_packet};
-ghost use Rattle.rows.specs.Tables.{rows_of, any_live};
+ghost use Rattle.rows.specs.Tables.{rows_of};
+ghost use Rattle.member.specs.declared.member.Member.{Member};
 ghost use Rattle.member.specs.Members.{join_packet, join_answer, join_after, leave_packet, leave_answer, leave_after, report_answer, report_after, report_bytes};
-ghost use Rattle.control.specs.Controls.{rows_entered, rows_exited, rows_summary, rows_settled};
-ghost use Rattle.control.specs.Nodes.{control_seen, new_control, control_busy, ticked, beat_packet, beat_answer, admission, acceptance, term_from, reply_of, response_of, reply_length, reply_buffer, deliver_answer, deliver_after, deliver_buffer};
+ghost use Rattle.control.specs.Controls.{SeenRows, rows_entered, rows_exited, rows_summary, rows_settled};
+ghost use Rattle.control.specs.Incomings.{taken_from, takes};
+ghost use Rattle.control.specs.Nodes.{control_seen, new_control, control_busy, ticked, beat_packet, beat_answer, child_accepted, term_from, reply_body, accepts, deliver_answer, deliver_after, deliver_buffer};
 
 use crate::kind::Rows;
-use crate::taking::{Incoming, classify, for_node, from_parent, of_stream};
+use crate::taking::{Incoming, classify};
+use address::{Accepted, Address, Node, deliver};
 use answer::{Delivered, Outcome, Refusal};
 use member::member::Member;
-use member::types::{FromParent, Identity, Response, Standing};
+use member::types::{Identity, Standing};
 use rows::row::{FromChild, Reply};
 use rows::table::RowTable;
 use std::convert::Infallible;
-use wire::{Body, Packet, read, write};
-
-// The longest reply is a JoinConfirm.
-const REPLY_ROOM: usize = 26;
+use wire::{Body, Packet};
 
 #[derive(Drop)]
 pub struct Control {
@@ -31,15 +30,15 @@ impl Control {
     pub fn new(identity: Identity, table: RowTable) -> Control
         ensures { control_seen result ≡ new_control identity (rows_of table) }
     {
-        let top = identity.upper.is_top();
+        let (standing, term) = if identity.upper.is_top() {
+            (Standing::Joined, 1)
+        } else {
+            (Standing::Outside, 0)
+        };
         let member = Member {
             identity,
-            standing: if top {
-                Standing::Joined
-            } else {
-                Standing::Outside
-            },
-            term: if top { 1 } else { 0 },
+            standing,
+            term,
             start: 1,
             slot: 0,
             serial: 0,
@@ -94,93 +93,41 @@ impl Control {
         if !self.member.standing.is_joined() {
             return Err(Refusal::WrongStanding);
         }
-        let Identity {
-            tree,
-            stream,
-            number,
-            ..
-        } = self.member.identity;
-        write(
-            &Packet::bare(tree, stream, number, 0, Body::Heartbeat { clock }),
-            out,
-        )
+        self.member
+            .identity
+            .address
+            .write_to(0, Body::Heartbeat { clock }, out)
     }
 
-    // Whether a packet is for this node, from one that it takes such packets from.
-    fn admit(&self, packet: &Packet<'_>) -> Result<Incoming, Refusal>
-        ensures { result ≡ admission (control_seen self.now) (plain_packet packet.now) }
+    // Whether a packet is taken from its writer.
+    fn takes_from(&self, writer: u16, incoming: &Incoming) -> bool
+        ensures { result ≡ taken_from (control_seen self.now) writer incoming.now }
     {
-        let identity = self.member.identity;
-        if !of_stream(identity, packet) {
-            return Err(Refusal::OtherStream);
-        }
-        if !for_node(identity, packet) {
-            return Err(Refusal::OtherAddressee);
-        }
-        let incoming = classify(&packet.body);
-        let takes = match incoming {
-            Incoming::Parent(_) => from_parent(identity.upper, packet.writer),
-            Incoming::Child(_) => self.member.kind.table.slot_of(packet.writer).is_some(),
-            Incoming::NotTaken => false,
-        };
-        if takes {
-            Ok(incoming)
-        } else {
-            Err(Refusal::NotTaken)
+        match incoming {
+            Incoming::Parent(_) => self.member.identity.upper.is_parent(writer),
+            Incoming::Child(_) => self.member.kind.table.slot_of(writer).is_some(),
         }
     }
 
-    fn from_child(
-        &mut self,
-        writer: u16,
-        packet: FromChild,
-        clock: u32,
-    ) -> (Outcome, Option<Body<Infallible>>)
-        ensures after { control_seen self.new ≡ (acceptance clock (control_seen self.old) writer (Incoming.Child packet)).member }
-        ensures answer { result ≡ ((acceptance clock (control_seen self.old) writer (Incoming.Child packet)).outcome, (acceptance clock (control_seen self.old) writer (Incoming.Child packet)).reply) }
+    fn hear_child(&mut self, clock: u32, writer: u16, packet: FromChild) -> Accepted
+        ensures after { control_seen self.new ≡ (child_accepted clock (control_seen self.old) writer packet).node }
+        ensures outcome { result.outcome ≡ (child_accepted clock (control_seen self.old) writer packet).outcome }
+        ensures reply { result.reply ≡ (child_accepted clock (control_seen self.old) writer packet).reply }
     {
         let joined = self.member.standing.is_joined();
         let low = self.member.kind.low;
-        match self
-            .member
-            .kind
-            .table
-            .take(writer, joined, low, packet, clock)
-        {
-            Some(decision) => (
-                decision.outcome,
-                reply_body(term_from(packet), decision.reply),
-            ),
-            None => (Outcome::Stale, None),
-        }
-    }
-
-    fn from_parent(
-        &mut self,
-        writer: u16,
-        packet: FromParent,
-        clock: u32,
-    ) -> (Outcome, Option<Body<Infallible>>)
-        ensures after { control_seen self.new ≡ (acceptance clock (control_seen self.old) writer (Incoming.Parent packet)).member }
-        ensures answer { result ≡ ((acceptance clock (control_seen self.old) writer (Incoming.Parent packet)).outcome, (acceptance clock (control_seen self.old) writer (Incoming.Parent packet)).reply) }
-    {
-        let heard = self.member.take(packet, clock);
-        (heard.outcome, response_body(heard.response))
-    }
-
-    fn accept(
-        &mut self,
-        writer: u16,
-        incoming: Incoming,
-        clock: u32,
-    ) -> (Outcome, Option<Body<Infallible>>)
-        ensures after { control_seen self.new ≡ (acceptance clock (control_seen self.old) writer incoming).member }
-        ensures answer { result ≡ ((acceptance clock (control_seen self.old) writer incoming).outcome, (acceptance clock (control_seen self.old) writer incoming).reply) }
-    {
-        match incoming {
-            Incoming::Parent(packet) => self.from_parent(writer, packet, clock),
-            Incoming::Child(packet) => self.from_child(writer, packet, clock),
-            Incoming::NotTaken => (Outcome::Stale, None),
+        let table = &mut self.member.kind.table;
+        match table.take(writer, joined, low, packet, clock) {
+            Some(decision) => Accepted {
+                outcome: decision.outcome,
+                reply: decision
+                    .reply
+                    .map(|reply| reply_body(term_from(packet), reply)),
+            },
+            None => Accepted {
+                outcome: Outcome::Stale,
+                reply: None,
+            },
         }
     }
 
@@ -195,19 +142,38 @@ impl Control {
         ensures after { control_seen self.new ≡ deliver_after clock (is_ok result) (control_seen self.old) (decode bytes.now) }
         ensures buffer { reply.new ≡ deliver_buffer clock (is_ok result) (control_seen self.old) (decode bytes.now) reply.old }
     {
-        let packet = read(bytes)?;
-        let incoming = self.admit(&packet)?;
-        if reply.len() < REPLY_ROOM {
-            return Err(Refusal::ShortOutput);
+        deliver(self, clock, bytes, reply)
+    }
+}
+
+impl Node for Control {
+    type Incoming = Incoming;
+
+    ghost Seen = { Member SeenRows };
+
+    ghost seen = { control_seen };
+
+    ghost own = { λ m. m.identity.address };
+
+    ghost takes = { takes };
+
+    ghost accepts = { accepts };
+
+    fn address(&self) -> Address {
+        self.member.identity.address
+    }
+
+    fn known(&self, packet: &Packet<'_>) -> Option<Incoming> {
+        let incoming = classify(&packet.body)?;
+        self.takes_from(packet.writer, &incoming)
+            .then_some(incoming)
+    }
+
+    fn accept(&mut self, clock: u32, writer: u16, incoming: Incoming) -> Accepted {
+        match incoming {
+            Incoming::Parent(packet) => self.member.take(packet, clock).into(),
+            Incoming::Child(packet) => self.hear_child(clock, writer, packet),
         }
-        let identity = self.member.identity;
-        let writer = packet.writer;
-        let (outcome, body) = self.accept(writer, incoming, clock);
-        let len = write_reply(identity, writer, body, reply);
-        Ok(Delivered {
-            outcome,
-            reply: len,
-        })
     }
 }
 
@@ -215,62 +181,24 @@ fn term_from(packet: FromChild) -> u32
     ensures { result ≡ term_from packet }
 {
     match packet {
-        FromChild::JoinStream { term } => term,
-        FromChild::LeaveStream { term } => term,
+        FromChild::JoinStream { term }
+        | FromChild::LeaveStream { term }
+        | FromChild::HeartbeatResponse { term } => term,
         FromChild::Hack(hack) => hack.term,
-        FromChild::HeartbeatResponse { term } => term,
     }
 }
 
-fn reply_body(term: u32, reply: Option<Reply>) -> Option<Body<Infallible>>
-    ensures { result ≡ reply_of term reply }
+// A reply to a child, with the term of its packet.
+fn reply_body(term: u32, reply: Reply) -> Body<Infallible>
+    ensures { result ≡ reply_body term reply }
 {
     match reply {
-        None => None,
-        Some(Reply::JoinAck) => Some(Body::JoinAck { term }),
-        Some(Reply::JoinConfirm { start, slot }) => {
+        Reply::JoinAck => Body::JoinAck { term },
+        Reply::JoinConfirm { start, slot } => {
             let slot = slot.min(65535) as u16;
-            Some(Body::JoinConfirm { term, start, slot })
+            Body::JoinConfirm { term, start, slot }
         }
-        Some(Reply::Eject) => Some(Body::Eject { term }),
-        Some(Reply::LeaveConfirm) => Some(Body::LeaveConfirm { term }),
-    }
-}
-
-fn response_body(response: Option<Response>) -> Option<Body<Infallible>>
-    ensures { result ≡ response_of response }
-{
-    match response {
-        None => None,
-        Some(response) => Some(Body::HeartbeatResponse {
-            term: response.term,
-            clock: response.clock,
-        }),
-    }
-}
-
-// Writes a reply, if there is one, and answers its length.
-fn write_reply(
-    identity: Identity,
-    writer: u16,
-    reply: Option<Body<Infallible>>,
-    out: &mut [u8],
-) -> usize
-    ensures answer { result ≡ reply_length identity writer reply out.old }
-    ensures buffer { out.new ≡ reply_buffer identity writer reply out.old }
-{
-    let Some(body) = reply else {
-        return 0;
-    };
-    let packet = Packet::bare(
-        identity.tree,
-        identity.stream,
-        identity.number,
-        writer,
-        body,
-    );
-    match write(&packet, out) {
-        Ok(len) => len,
-        Err(_) => 0,
+        Reply::Eject => Body::Eject { term },
+        Reply::LeaveConfirm => Body::LeaveConfirm { term },
     }
 }

@@ -1,70 +1,46 @@
-// Which packets a control node takes, and from whom.
-ghost use Rattle.std.specs.Prelude.{◌≡◌, is_some};
-ghost use Rattle.wire.specs.Plain.{plain_body, plain_packet};
-ghost use Rattle.member.specs.Members.{upper_number};
+// What a packet is to a control node.
+ghost use Rattle.std.specs.Prelude.{◌≡◌};
+ghost use Rattle.wire.specs.Plain.{plain_body};
 ghost use Rattle.control.specs.Controls.{SeenRows};
-ghost use Rattle.control.specs.Incomings.{incoming_of, is_parent, same_stream, for_node};
+ghost use Rattle.control.specs.Incomings.{child_packet, incoming_of};
 
-use member::types::{FromParent, Identity, Upper};
+use member::types::FromParent;
 use rows::row::FromChild;
-use wire::{Body, Packet};
+use wire::Body;
 
 #[derive(Clone, Copy)]
 pub enum Incoming {
     Parent(FromParent),
     Child(FromChild),
-    NotTaken,
 }
 
-// A packet by its type alone.
-pub(crate) fn classify(body: &Body<&[u8]>) -> Incoming
-    ensures { result ≡ incoming_of (plain_body body.now) }
+// A packet as one of a child's, by its type alone.
+fn child_packet(body: &Body<&[u8]>) -> Option<FromChild>
+    ensures { result ≡ child_packet (plain_body body.now) }
 {
     match *body {
-        Body::Hack(hack) => Incoming::Child(FromChild::Hack(hack)),
-        Body::JoinStream { term } => Incoming::Child(FromChild::JoinStream { term }),
-        Body::LeaveStream { term } => Incoming::Child(FromChild::LeaveStream { term }),
-        Body::HeartbeatResponse { term, clock: _ } => {
-            Incoming::Child(FromChild::HeartbeatResponse { term })
-        }
-        Body::JoinAck { term } => Incoming::Parent(FromParent::JoinAck { term }),
-        Body::JoinConfirm { term, start, slot } => {
-            Incoming::Parent(FromParent::JoinConfirm { term, start, slot })
-        }
-        Body::Heartbeat { clock } => Incoming::Parent(FromParent::Heartbeat { clock }),
-        Body::Eject { term } => Incoming::Parent(FromParent::Eject { term }),
-        Body::LeaveConfirm { term } => Incoming::Parent(FromParent::LeaveConfirm { term }),
-        Body::Data {
-            number: _,
-            payload: _,
-        } => Incoming::NotTaken,
-        Body::Retransmission {
-            number: _,
-            payload: _,
-        } => Incoming::NotTaken,
-        Body::NullData { highest: _ } => Incoming::NotTaken,
-        Body::Eos { highest: _ } => Incoming::NotTaken,
+        Body::Hack(hack) => Some(FromChild::Hack(hack)),
+        Body::JoinStream { term } => Some(FromChild::JoinStream { term }),
+        Body::LeaveStream { term } => Some(FromChild::LeaveStream { term }),
+        Body::HeartbeatResponse { term, .. } => Some(FromChild::HeartbeatResponse { term }),
+        Body::Data { .. }
+        | Body::Retransmission { .. }
+        | Body::JoinAck { .. }
+        | Body::JoinConfirm { .. }
+        | Body::Heartbeat { .. }
+        | Body::NullData { .. }
+        | Body::Eject { .. }
+        | Body::Eos { .. }
+        | Body::LeaveConfirm { .. } => None,
     }
 }
 
-// Whether a node is the parent.
-pub(crate) fn from_parent(upper: Upper, writer: u16) -> bool
-    ensures { result ≡ is_parent upper writer }
+// A packet by its type alone, whoever wrote it.
+pub(crate) fn classify(body: &Body<&[u8]>) -> Option<Incoming>
+    ensures { result ≡ incoming_of (plain_body body.now) }
 {
-    match upper {
-        Upper::Parent(number) => number == writer,
-        Upper::Sender(_) => false,
+    match FromParent::from_body(body) {
+        Some(packet) => Some(Incoming::Parent(packet)),
+        None => child_packet(body).map(Incoming::Child),
     }
-}
-
-pub(crate) fn of_stream(identity: Identity, packet: &Packet<'_>) -> bool
-    ensures { result ≡ same_stream identity (plain_packet packet.now) }
-{
-    packet.tree == identity.tree && packet.stream == identity.stream
-}
-
-pub(crate) fn for_node(identity: Identity, packet: &Packet<'_>) -> bool
-    ensures { result ≡ for_node identity (plain_packet packet.now) }
-{
-    packet.addressee == 0 || packet.addressee == identity.number
 }

@@ -4,12 +4,11 @@ use Rattle.std.specs.declared.convert.Infallible.{Infallible}
 use Rattle.answer.specs.declared.Outcome.TheVariants.{Stale, Taken}
 use Rattle.answer.specs.declared.Refusal.{Refusal}
 use Rattle.answer.specs.declared.Refusal.TheVariants.{WrongStanding, Exhausted, HasLiveRow, NoLiveRow}
-use Rattle.wire.specs.Encoding.{encode, write_answer}
-use Rattle.wire.specs.Plain.{bare_packet}
-use Rattle.wire.specs.Ranges.{packet_in_range}
+use Rattle.wire.specs.Encoding.{encode}
 use Rattle.wire.specs.declared.packet.Body.{Body}
 use Rattle.wire.specs.declared.packet.Body.TheVariants.{Hack as HackOf, JoinStream, LeaveStream}
 use Rattle.wire.specs.declared.packet.Message.{Message}
+use Rattle.address.specs.Addresses.{packet_of, written}
 use Rattle.member.specs.declared.member.Member.{Member}
 use Rattle.member.specs.declared.types.FromParent.{FromParent}
 use Rattle.member.specs.declared.types.FromParent.TheVariants.{JoinAck, JoinConfirm, Heartbeat, Eject, LeaveConfirm}
@@ -42,13 +41,17 @@ is_joined Outside = false
 is_joined Waiting = false
 is_joined Joined = true
 
+-- the term in a packet of the parent
+abbrev pub parent_term : FromParent → Option ℕ
+parent_term (JoinAck t) = Some t
+parent_term (JoinConfirm t start slot) = Some t
+parent_term (Heartbeat sent) = None
+parent_term (Eject t) = Some t
+parent_term (LeaveConfirm t) = Some t
+
 -- what a node writes to its parent, and the top to the sender
 abbrev pub up_packet : Identity → Body Infallible → Message (List ℕ)
-up_packet i b = bare_packet i.tree i.stream i.number (upper_number i.upper) b
-
--- what writing a packet answers
-abbrev pub written : Message (List ℕ) → List ℕ → Result ℕ Refusal
-written p out = write_answer (packet_in_range p) (encode p) out
+up_packet i b = packet_of i.address (upper_number i.upper) b
 
 module _ {X : Type 0} where
   -- changes of a member

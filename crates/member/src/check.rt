@@ -1,34 +1,20 @@
 // The check before a node is made: all that could be wrong with what the node is told.
-ghost use Rattle.std.specs.Prelude.{◌≡◌, ℕ, drop};
-ghost use Rattle.member.specs.Checks.{has_number, distinct_numbers, check_answer};
+ghost use Rattle.std.specs.Prelude.{◌≡◌};
+ghost use Rattle.member.specs.Checks.{distinct_numbers, check_answer};
 
 use crate::types::Identity;
 use answer::Refusal;
-
-// Whether a number stands at `from` or later.
-fn stands_later(numbers: &[u16], from: usize, number: u16) -> bool
-    ensures { result ≡ has_number number (drop from numbers.now) }
-{
-    for i in from..numbers.len() {
-        if number == numbers[i] {
-            return true;
-        }
-    }
-    false
-}
 
 // Whether no number is 0 or comes twice.
 fn are_distinct(numbers: &[u16]) -> bool
     ensures { result ≡ distinct_numbers numbers.now }
 {
-    for i in 0..numbers.len() {
-        let number = numbers[i];
-        if number == 0 {
+    let mut rest = numbers;
+    while let Some((first, later)) = rest.split_first() {
+        if *first == 0 || later.contains(first) {
             return false;
         }
-        if stands_later(numbers, i + 1, number) {
-            return false;
-        }
+        rest = later;
     }
     true
 }
@@ -41,15 +27,15 @@ pub fn check(identity: Identity, most: u16, rate: u16, others: &[u16]) -> Result
     if most == 0 || most > 16 || rate == 0 || rate > 9999 {
         return Err(Refusal::OutOfRange);
     }
-    if identity.stream < 32768 || others.len() > most as usize {
+    if identity.address.stream < 32768 || others.len() > most as usize {
         return Err(Refusal::OutOfRange);
     }
-    let own = identity.number;
+    let own = identity.address.number;
     let upper = identity.upper.number();
     if own == 0 || upper == 0 || own == upper || !are_distinct(others) {
         return Err(Refusal::OutOfRange);
     }
-    if stands_later(others, 0, own) || stands_later(others, 0, upper) {
+    if others.contains(&own) || others.contains(&upper) {
         return Err(Refusal::OutOfRange);
     }
     Ok(())

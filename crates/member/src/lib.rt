@@ -4,4 +4,5 @@
 pub mod check;
 pub mod kind;
 pub mod member;
+pub mod parent;
 pub mod types;

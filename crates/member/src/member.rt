@@ -1,13 +1,14 @@
 // A member of the tree: how it joins, leaves, falls silent and reports, whatever its kind.
 ghost use Rattle.std.specs.Prelude.{◌≡◌, ℕ, ◌≤◌, is_ok};
 ghost use Rattle.wire.specs.Encoding.{encode, buffer_after};
-ghost use Rattle.member.specs.Members.{member_seen, upper_number, is_top, is_joined, up_packet, written, join_packet, join_answer, join_after, leave_packet, leave_answer, leave_after, goes_silent, tick_after, report_answer, report_after, report_bytes, admitted, heard};
+ghost use Rattle.address.specs.Addresses.{written};
+ghost use Rattle.member.specs.Members.{member_seen, upper_number, is_top, is_joined, up_packet, parent_term, join_packet, join_answer, join_after, leave_packet, leave_answer, leave_after, goes_silent, tick_after, report_answer, report_after, report_bytes, admitted, heard};
 
 use crate::kind::Kind;
 use crate::types::{FromParent, Heard, Identity, Response, Standing, Summary, Upper};
 use answer::{Outcome, Refusal};
 use std::convert::Infallible;
-use wire::{Body, Hack, Packet, write};
+use wire::{Body, Hack};
 
 #[derive(Drop)]
 pub struct Member<K> {
@@ -25,11 +26,7 @@ impl Standing {
     pub fn is_joined(self) -> bool
         ensures { result ≡ is_joined self }
     {
-        match self {
-            Standing::Joined => true,
-            Standing::Outside => false,
-            Standing::Waiting => false,
-        }
+        matches!(self, Standing::Joined)
     }
 }
 
@@ -38,17 +35,28 @@ impl Upper {
         ensures { result ≡ upper_number self }
     {
         match self {
-            Upper::Parent(number) => number,
-            Upper::Sender(number) => number,
+            Upper::Parent(number) | Upper::Sender(number) => number,
         }
     }
 
     pub fn is_top(self) -> bool
         ensures { result ≡ is_top self }
     {
+        matches!(self, Upper::Sender(_))
+    }
+}
+
+impl FromParent {
+    // The term in a packet; a Heartbeat has none.
+    fn term(self) -> Option<u32>
+        ensures { result ≡ parent_term self }
+    {
         match self {
-            Upper::Parent(_) => false,
-            Upper::Sender(_) => true,
+            FromParent::JoinAck { term }
+            | FromParent::JoinConfirm { term, .. }
+            | FromParent::Eject { term }
+            | FromParent::LeaveConfirm { term } => Some(term),
+            FromParent::Heartbeat { .. } => None,
         }
     }
 }
@@ -59,11 +67,7 @@ impl Identity {
         ensures answer { result ≡ written (up_packet self body) out.old }
         ensures buffer { out.new ≡ buffer_after result (encode (up_packet self body)) out.old }
     {
-        let to = self.upper.number();
-        write(
-            &Packet::bare(self.tree, self.stream, self.number, to, body),
-            out,
-        )
+        self.address.write_to(self.upper.number(), body, out)
     }
 }
 
@@ -77,12 +81,7 @@ impl<K: Kind> Member<K> {
         let term = match self.standing {
             Standing::Joined => return Err(Refusal::WrongStanding),
             Standing::Waiting => self.term,
-            Standing::Outside => {
-                if self.term == u32::MAX {
-                    return Err(Refusal::Exhausted);
-                }
-                self.term + 1
-            }
+            Standing::Outside => self.term.checked_add(1).ok_or(Refusal::Exhausted)?,
         };
         let len = self.identity.write_up(Body::JoinStream { term }, out)?;
         self.standing = Standing::Waiting;
@@ -136,22 +135,17 @@ impl<K: Kind> Member<K> {
         if !self.standing.is_joined() {
             return Err(Refusal::WrongStanding);
         }
-        let Some(summary) = self.kind.summarize() else {
-            return Err(Refusal::NoLiveRow);
-        };
-        if self.serial == u32::MAX {
-            return Err(Refusal::Exhausted);
-        }
-        let Summary { lsn, hsn, flags } = summary;
+        let Summary { lsn, hsn, flags } = self.kind.summarize().ok_or(Refusal::NoLiveRow)?;
+        let serial = self.serial.checked_add(1).ok_or(Refusal::Exhausted)?;
         let hack = Hack {
             term: self.term,
-            serial: self.serial + 1,
+            serial,
             lsn,
             hsn,
             flags,
         };
         let len = self.identity.write_up(Body::Hack(hack), out)?;
-        self.serial += 1;
+        self.serial = serial;
         self.kind.settle();
         Ok(len)
     }
@@ -160,53 +154,30 @@ impl<K: Kind> Member<K> {
     pub fn take(&mut self, packet: FromParent, clock: u32) -> Heard
         ensures { (member_seen K.Kind.seen self.new, result) ≡ heard K.Kind.entered K.Kind.exited clock self.old.standing packet (member_seen K.Kind.seen self.old) }
     {
-        let own = match packet {
-            FromParent::JoinAck { term } => term == self.term,
-            FromParent::JoinConfirm {
-                term,
-                start: _,
-                slot: _,
-            } => term == self.term,
-            FromParent::Heartbeat { clock: _ } => true,
-            FromParent::Eject { term } => term == self.term,
-            FromParent::LeaveConfirm { term } => term == self.term,
-        };
-        match (self.standing, packet, own) {
-            (
-                Standing::Waiting,
-                FromParent::JoinConfirm {
-                    term: _,
-                    start,
-                    slot,
-                },
-                true,
-            ) => {
+        let own = packet.term() == Some(self.term);
+        let (outcome, response) = match (self.standing, packet, own) {
+            (Standing::Waiting, FromParent::JoinConfirm { start, slot, .. }, true) => {
                 self.admit(start, slot, clock);
-                heard_as(Outcome::Taken, None)
+                (Outcome::Taken, None)
             }
-            (Standing::Waiting | Standing::Joined, FromParent::Eject { term: _ }, true) => {
+            (Standing::Waiting | Standing::Joined, FromParent::Eject { .. }, true) => {
                 self.standing = Standing::Outside;
                 self.kind.exit();
-                heard_as(Outcome::Taken, None)
+                (Outcome::Taken, None)
             }
-            (Standing::Waiting, FromParent::JoinAck { term: _ }, true) => heard_as(
-                Outcome::Taken,
-                None,
-            ),
-            (Standing::Outside, FromParent::LeaveConfirm { term: _ }, true) => heard_as(
-                Outcome::Taken,
-                None,
-            ),
+            (Standing::Waiting, FromParent::JoinAck { .. }, true)
+            | (Standing::Outside, FromParent::LeaveConfirm { .. }, true) => (Outcome::Taken, None),
             (Standing::Joined, FromParent::Heartbeat { clock: sent }, _) => {
                 self.heard = clock;
                 let response = Response {
                     term: self.term,
                     clock: sent,
                 };
-                heard_as(Outcome::Taken, Some(response))
+                (Outcome::Taken, Some(response))
             }
-            _ => heard_as(Outcome::Stale, None),
-        }
+            _ => (Outcome::Stale, None),
+        };
+        Heard { outcome, response }
     }
 
     // Joins at the parent's word.
@@ -220,10 +191,4 @@ impl<K: Kind> Member<K> {
         self.heard = clock;
         self.kind.enter(start);
     }
-}
-
-fn heard_as(outcome: Outcome, response: Option<Response>) -> Heard
-    ensures { result ≡ record { outcome = outcome; response = response } }
-{
-    Heard { outcome, response }
 }

@@ -1,6 +1,6 @@
 // What a member is told at its making, how it stands, and what its parent sends it.
+use address::Address;
 use answer::Outcome;
-use wire::TreeId;
 
 #[derive(Clone, Copy, PartialEq, Eq, Debug)]
 pub enum Standing {
@@ -19,9 +19,7 @@ pub enum Upper {
 // What never changes of a node. `limit` is the longest silence, in milliseconds.
 #[derive(Clone, Copy)]
 pub struct Identity {
-    pub tree: TreeId,
-    pub stream: u16,
-    pub number: u16,
+    pub address: Address,
     pub upper: Upper,
     pub limit: u32,
 }

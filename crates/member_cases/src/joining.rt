@@ -1,4 +1,5 @@
 // A control node, number 5 below node 2, with children 7 and 8. Node 2 with node 1 above is the top.
+use address::Address;
 use answer::{Outcome, Refusal};
 use control::kind::Rows;
 use member::member::Member;
@@ -19,10 +20,13 @@ fn made(
     standing: Standing,
     term: u32,
 ) -> Result<Control, Fail> {
-    let identity = Identity {
+    let address = Address {
         tree: TreeId([1, 2, 3, 4, 5, 6]),
         stream: 40000,
         number,
+    };
+    let identity = Identity {
+        address,
         upper,
         limit: 5000,
     };
@@ -179,9 +183,10 @@ fn reports(rt: HostRuntime) -> Result<(), Fail> {
     Ok(())
 }
 
-fn expect(rt: &impl Abort, heard: Heard, outcome: Outcome, response: bool) {
+// The answer to a packet that gets no response.
+fn expect(rt: &impl Abort, heard: Heard, outcome: Outcome) {
     assert_eq!(rt; heard.outcome, outcome);
-    assert_eq!(rt; heard.response.is_some(), response);
+    assert!(rt; heard.response.is_none());
 }
 
 #[test]
@@ -191,7 +196,6 @@ fn packets_when_outside(rt: HostRuntime) -> Result<(), Fail> {
         &rt,
         node.take(FromParent::JoinAck { term: 1 }, 1),
         Outcome::Stale,
-        false,
     );
     expect(
         &rt,
@@ -204,31 +208,26 @@ fn packets_when_outside(rt: HostRuntime) -> Result<(), Fail> {
             1,
         ),
         Outcome::Stale,
-        false,
     );
     expect(
         &rt,
         node.take(FromParent::Heartbeat { clock: 9 }, 1),
         Outcome::Stale,
-        false,
     );
     expect(
         &rt,
         node.take(FromParent::Eject { term: 1 }, 1),
         Outcome::Stale,
-        false,
     );
     expect(
         &rt,
         node.take(FromParent::LeaveConfirm { term: 2 }, 1),
         Outcome::Stale,
-        false,
     );
     expect(
         &rt,
         node.take(FromParent::LeaveConfirm { term: 1 }, 1),
         Outcome::Taken,
-        false,
     );
     assert_eq!(rt; (node.standing, node.heard), (Standing::Outside, 0));
     Ok(())
@@ -241,25 +240,21 @@ fn packets_when_waiting(rt: HostRuntime) -> Result<(), Fail> {
         &rt,
         node.take(FromParent::Heartbeat { clock: 9 }, 1),
         Outcome::Stale,
-        false,
     );
     expect(
         &rt,
         node.take(FromParent::LeaveConfirm { term: 2 }, 1),
         Outcome::Stale,
-        false,
     );
     expect(
         &rt,
         node.take(FromParent::JoinAck { term: 1 }, 1),
         Outcome::Stale,
-        false,
     );
     expect(
         &rt,
         node.take(FromParent::JoinAck { term: 2 }, 1),
         Outcome::Taken,
-        false,
     );
     expect(
         &rt,
@@ -272,20 +267,17 @@ fn packets_when_waiting(rt: HostRuntime) -> Result<(), Fail> {
             1,
         ),
         Outcome::Stale,
-        false,
     );
     expect(
         &rt,
         node.take(FromParent::Eject { term: 1 }, 1),
         Outcome::Stale,
-        false,
     );
     assert_eq!(rt; (node.standing, node.heard), (Standing::Waiting, 0));
     expect(
         &rt,
         node.take(FromParent::Eject { term: 2 }, 1),
         Outcome::Taken,
-        false,
     );
     assert_eq!(rt; node.standing, Standing::Outside);
     Ok(())
@@ -299,7 +291,6 @@ fn packets_when_joined(rt: HostRuntime) -> Result<(), Fail> {
         &rt,
         node.take(FromParent::JoinAck { term: 1 }, 2000),
         Outcome::Stale,
-        false,
     );
     expect(
         &rt,
@@ -312,32 +303,28 @@ fn packets_when_joined(rt: HostRuntime) -> Result<(), Fail> {
             2000,
         ),
         Outcome::Stale,
-        false,
     );
     expect(
         &rt,
         node.take(FromParent::LeaveConfirm { term: 1 }, 2000),
         Outcome::Stale,
-        false,
     );
     assert_eq!(rt; node.heard, 1000);
     let heard = node.take(FromParent::Heartbeat { clock: 9 }, 2000);
-    match heard.response {
-        Some(response) => assert_eq!(rt; (response.term, response.clock), (1, 9)),
-        None => return Err(Fail::new("no response")),
-    }
+    let told = heard
+        .response
+        .map(|response| (response.term, response.clock));
+    assert_eq!(rt; told, Some((1, 9)));
     assert_eq!(rt; node.heard, 2000);
     expect(
         &rt,
         node.take(FromParent::Eject { term: 2 }, 3000),
         Outcome::Stale,
-        false,
     );
     expect(
         &rt,
         node.take(FromParent::Eject { term: 1 }, 3000),
         Outcome::Taken,
-        false,
     );
     assert_eq!(rt;
         (node.standing, node.start, node.heard),
@@ -356,7 +343,6 @@ fn rejoins(rt: HostRuntime) -> Result<(), Fail> {
         &rt,
         node.take(FromParent::Eject { term: 1 }, 2000),
         Outcome::Taken,
-        false,
     );
     assert_eq!(rt; node.join(&mut out), Ok(20));
     expect(
@@ -370,7 +356,6 @@ fn rejoins(rt: HostRuntime) -> Result<(), Fail> {
             3000,
         ),
         Outcome::Stale,
-        false,
     );
     expect(
         &rt,
@@ -383,13 +368,11 @@ fn rejoins(rt: HostRuntime) -> Result<(), Fail> {
             3000,
         ),
         Outcome::Taken,
-        false,
     );
     expect(
         &rt,
         node.take(FromParent::Eject { term: 1 }, 3000),
         Outcome::Stale,
-        false,
     );
     assert_eq!(rt;
         (node.standing, node.term, node.kind.low),

@@ -1,4 +1,5 @@
 // A control node over bytes: tree 1 to 6, stream 40000, number 5 below node 2, children 7 and 8.
+use address::Address;
 use answer::{Delivered, Outcome, Refusal};
 use control::node::Control;
 use member::check::check as check_making;
@@ -10,44 +11,49 @@ use std::process::Abort;
 use std::test::Fail;
 use wire::{Body, Hack, Packet, TreeId, write};
 
-const NODE: Identity = Identity {
+const ADDRESS: Address = Address {
     tree: TreeId([1, 2, 3, 4, 5, 6]),
     stream: 40000,
     number: 5,
+};
+
+const NODE: Identity = Identity {
+    address: ADDRESS,
     upper: Upper::Parent(2),
     limit: 5000,
 };
+
+fn with_address(address: Address) -> Identity {
+    Identity { address, ..NODE }
+}
 
 fn node(heap: Global) -> Result<Control, Fail> {
     Ok(Control::new(NODE, RowTable::new(heap, &[7, 8])?))
 }
 
-// Brings a packet to the node: the refusal's number, or 100 and more for what became of it, and the reply's length.
+type Told = Result<(Outcome, usize), Refusal>;
+
+// What became of a packet, and the reply's length.
+fn told(answer: Result<Delivered, Refusal>) -> Told {
+    answer.map(|delivered| (delivered.outcome, delivered.reply))
+}
+
+const TAKEN: Told = Ok((Outcome::Taken, 0));
+
+// Brings a packet to the node.
 fn bring(
     node: &mut Control,
     clock: u32,
     writer: u16,
     body: Body<Infallible>,
     reply: &mut [u8],
-) -> Result<(u8, usize), Fail> {
+) -> Result<Told, Fail> {
     let mut bytes = [0u8; 74];
-    let len = write(&Packet::bare(NODE.tree, 40000, writer, 0, body), &mut bytes)?;
+    let len = write(
+        &Packet::bare(ADDRESS.tree, 40000, writer, 0, body),
+        &mut bytes,
+    )?;
     Ok(told(node.deliver(clock, &bytes[0..len.min(74)], reply)))
-}
-
-fn told(answer: Result<Delivered, Refusal>) -> (u8, usize) {
-    match answer {
-        Err(refusal) => (refusal.number(), 0),
-        Ok(delivered) => (
-            match delivered.outcome {
-                Outcome::Stale => 100,
-                Outcome::Due => 101,
-                Outcome::Full => 102,
-                Outcome::Taken => 103,
-            },
-            delivered.reply,
-        ),
-    }
 }
 
 // Joined at term 1 from number 38 on, in slot 3.
@@ -60,7 +66,7 @@ fn joined(rt: &impl Abort, heap: Global) -> Result<Control, Fail> {
         start: 38,
         slot: 3,
     };
-    assert_eq!(rt; bring(&mut node, 0, 2, confirm, &mut out)?, (103, 0));
+    assert_eq!(rt; bring(&mut node, 0, 2, confirm, &mut out)?, TAKEN);
     Ok(node)
 }
 
@@ -83,10 +89,10 @@ fn makings(rt: HostRuntime) {
 fn numbers_and_stream(rt: HostRuntime) {
     assert_eq!(rt;
         check_making(
-            Identity {
+            with_address(Address {
                 stream: 32768,
-                ..NODE
-            },
+                ..ADDRESS
+            }),
             2,
             1,
             &[],
@@ -95,10 +101,10 @@ fn numbers_and_stream(rt: HostRuntime) {
     );
     assert_eq!(rt;
         check_making(
-            Identity {
+            with_address(Address {
                 stream: 32767,
-                ..NODE
-            },
+                ..ADDRESS
+            }),
             2,
             1,
             &[],
@@ -106,11 +112,27 @@ fn numbers_and_stream(rt: HostRuntime) {
         Err(Refusal::OutOfRange)
     );
     assert_eq!(rt;
-        check_making(Identity { number: 0, ..NODE }, 2, 1, &[]),
+        check_making(
+            with_address(Address {
+                number: 0,
+                ..ADDRESS
+            }),
+            2,
+            1,
+            &[]
+        ),
         Err(Refusal::OutOfRange)
     );
     assert_eq!(rt;
-        check_making(Identity { number: 2, ..NODE }, 2, 1, &[]),
+        check_making(
+            with_address(Address {
+                number: 2,
+                ..ADDRESS
+            }),
+            2,
+            1,
+            &[]
+        ),
         Err(Refusal::OutOfRange)
     );
     assert_eq!(rt;
@@ -127,26 +149,47 @@ fn numbers_and_stream(rt: HostRuntime) {
     );
 }
 
-// 13, 14, 15 and 12, each before the next.
+// Another stream, another addressee, a type not taken and a short buffer, each before the next.
 #[test]
 fn deliver_refuses(rt: HostRuntime) -> Result<(), Fail> {
     let mut node = node(rt.alloc())?;
     let mut bytes = [0u8; 20];
     let ask = Body::JoinStream { term: 1 };
-    assert_eq!(rt; told(node.deliver(0, &bytes[0..15], &mut [])), (7, 0));
+    assert_eq!(rt;
+        told(node.deliver(0, &bytes[0..15], &mut [])),
+        Err(Refusal::ShortPacket)
+    );
     let _ = write(&Packet::bare(TreeId([0; 6]), 40000, 99, 6, ask), &mut bytes)?;
-    assert_eq!(rt; told(node.deliver(0, &bytes, &mut [])), (13, 0));
-    let _ = write(&Packet::bare(NODE.tree, 40001, 99, 6, ask), &mut bytes)?;
-    assert_eq!(rt; told(node.deliver(0, &bytes, &mut [])), (13, 0));
-    let _ = write(&Packet::bare(NODE.tree, 40000, 99, 6, ask), &mut bytes)?;
-    assert_eq!(rt; told(node.deliver(0, &bytes, &mut [])), (14, 0));
-    let _ = write(&Packet::bare(NODE.tree, 40000, 2, 5, ask), &mut bytes)?;
-    assert_eq!(rt; told(node.deliver(0, &bytes, &mut [])), (15, 0));
-    let _ = write(&Packet::bare(NODE.tree, 40000, 7, 5, ask), &mut bytes)?;
+    assert_eq!(rt;
+        told(node.deliver(0, &bytes, &mut [])),
+        Err(Refusal::OtherStream)
+    );
+    let _ = write(&Packet::bare(ADDRESS.tree, 40001, 99, 6, ask), &mut bytes)?;
+    assert_eq!(rt;
+        told(node.deliver(0, &bytes, &mut [])),
+        Err(Refusal::OtherStream)
+    );
+    let _ = write(&Packet::bare(ADDRESS.tree, 40000, 99, 6, ask), &mut bytes)?;
+    assert_eq!(rt;
+        told(node.deliver(0, &bytes, &mut [])),
+        Err(Refusal::OtherAddressee)
+    );
+    let _ = write(&Packet::bare(ADDRESS.tree, 40000, 2, 5, ask), &mut bytes)?;
+    assert_eq!(rt;
+        told(node.deliver(0, &bytes, &mut [])),
+        Err(Refusal::NotTaken)
+    );
+    let _ = write(&Packet::bare(ADDRESS.tree, 40000, 7, 5, ask), &mut bytes)?;
     let mut reply = [170u8; 26];
-    assert_eq!(rt; told(node.deliver(0, &bytes, &mut reply[0..25])), (12, 0));
+    assert_eq!(rt;
+        told(node.deliver(0, &bytes, &mut reply[0..25])),
+        Err(Refusal::ShortOutput)
+    );
     assert!(rt; reply == [170u8; 26]);
-    assert_eq!(rt; told(node.deliver(0, &bytes, &mut reply)), (100, 20));
+    assert_eq!(rt;
+        told(node.deliver(0, &bytes, &mut reply)),
+        Ok((Outcome::Stale, 20))
+    );
     Ok(())
 }
 
@@ -158,39 +201,35 @@ fn reports_of_two(rt: HostRuntime) -> Result<(), Fail> {
     assert_eq!(rt; node.report(&mut out), Err(Refusal::NoLiveRow));
     assert_eq!(rt;
         bring(&mut node, 10, 7, Body::JoinStream { term: 1 }, &mut out)?,
-        (103, 26)
+        Ok((Outcome::Taken, 26))
     );
     assert!(rt; out[1] == 6 && out[13] == 7 && out[23] == 38 && out[25] == 0);
     assert_eq!(rt;
         bring(&mut node, 10, 8, Body::JoinStream { term: 1 }, &mut out)?,
-        (103, 26)
+        Ok((Outcome::Taken, 26))
     );
     assert!(rt; out[13] == 8 && out[25] == 1);
-    let mut first = Hack {
+    let first = Hack {
         term: 1,
         serial: 1,
         lsn: 40,
         hsn: 72,
-        flags: [0; 9],
+        flags: [0xff7e_dc7f, 0xff80_0000, 0, 0, 0, 0, 0, 0, 0],
     };
-    first.flags[0] = 0xff7e_dc7f;
-    first.flags[1] = 0xff80_0000;
     assert_eq!(rt;
         bring(&mut node, 20, 7, Body::Hack(first), &mut out)?,
-        (103, 0)
+        TAKEN
     );
-    let mut second = Hack {
+    let second = Hack {
         term: 1,
         serial: 1,
         lsn: 38,
         hsn: 74,
-        flags: [0; 9],
+        flags: [0xfdfe_dd7f, 0xff60_0000, 0, 0, 0, 0, 0, 0, 0],
     };
-    second.flags[0] = 0xfdfe_dd7f;
-    second.flags[1] = 0xff60_0000;
     assert_eq!(rt;
         bring(&mut node, 20, 8, Body::Hack(second), &mut out)?,
-        (103, 0)
+        TAKEN
     );
     assert_eq!(rt; node.report(&mut out), Ok(46));
     assert!(rt;
@@ -207,12 +246,12 @@ fn child_rejoins(rt: HostRuntime) -> Result<(), Fail> {
     let mut out = [0u8; 74];
     assert_eq!(rt;
         bring(&mut node, 0, 7, Body::JoinStream { term: 1 }, &mut out)?,
-        (103, 26)
+        Ok((Outcome::Taken, 26))
     );
     node.tick(5000);
     assert_eq!(rt;
         bring(&mut node, 5000, 2, Body::Heartbeat { clock: 9 }, &mut out)?,
-        (103, 24)
+        Ok((Outcome::Taken, 24))
     );
     node.tick(5001);
     assert_eq!(rt;
@@ -223,16 +262,16 @@ fn child_rejoins(rt: HostRuntime) -> Result<(), Fail> {
             Body::HeartbeatResponse { term: 1, clock: 9 },
             &mut out,
         )?,
-        (100, 20)
+        Ok((Outcome::Stale, 20))
     );
     assert_eq!(rt;
         bring(&mut node, 5001, 7, Body::JoinStream { term: 1 }, &mut out)?,
-        (100, 20)
+        Ok((Outcome::Stale, 20))
     );
     assert!(rt; out[1] == 10);
     assert_eq!(rt;
         bring(&mut node, 5001, 7, Body::JoinStream { term: 2 }, &mut out)?,
-        (103, 26)
+        Ok((Outcome::Taken, 26))
     );
     let old = Hack {
         term: 1,
@@ -243,7 +282,7 @@ fn child_rejoins(rt: HostRuntime) -> Result<(), Fail> {
     };
     assert_eq!(rt;
         bring(&mut node, 5002, 7, Body::Hack(old), &mut out)?,
-        (100, 20)
+        Ok((Outcome::Stale, 20))
     );
     Ok(())
 }
