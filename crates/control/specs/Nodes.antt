@@ -21,16 +21,12 @@ use Rattle.rows.specs.Tables.{any_live, slot_of, decided, rows_after}
 use Rattle.member.specs.declared.member.Member.{Member}
 use Rattle.member.specs.declared.types.Identity.{Identity}
 use Rattle.member.specs.declared.types.Standing.TheVariants.{Outside, Joined}
-use Rattle.member.specs.Members.{member_seen, is_top, is_joined, gone, goes_silent, heard}
+use Rattle.member.specs.Members.{is_top, is_joined, gone, goes_silent, heard}
 use Rattle.member.specs.Parents.{heard_from_parent}
-use Rattle.control.specs.declared.node.Control.{Control}
 use Rattle.control.specs.declared.taking.Incoming.{Incoming}
 use Rattle.control.specs.declared.taking.Incoming.TheVariants as from
-use Rattle.control.specs.Controls.{SeenRows, rows_seen, rows_entered, rows_exited}
+use Rattle.control.specs.Controls.{SeenRows, rows_entered, rows_exited}
 use Rattle.control.specs.Incomings.{takes}
-
-abbrev pub control_seen : Control → Member SeenRows
-control_seen c = member_seen rows_seen c.member
 
 -- a node just made: the top is joined at term 1, any other is outside at term 0
 abbrev pub new_control : Identity → List Row → Member SeenRows

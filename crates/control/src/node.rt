@@ -4,10 +4,10 @@ ghost use Rattle.wire.specs.Decoding.{decode};
 ghost use Rattle.wire.specs.Encoding.{encode, buffer_after};
 ghost use Rattle.rows.specs.Tables.{rows_of};
 ghost use Rattle.member.specs.declared.member.Member.{Member};
-ghost use Rattle.member.specs.Members.{join_packet, join_answer, join_after, leave_packet, leave_answer, leave_after, report_answer, report_after, report_bytes};
-ghost use Rattle.control.specs.Controls.{SeenRows, rows_entered, rows_exited, rows_summary, rows_settled};
+ghost use Rattle.member.specs.Members.{member_seen, join_packet, join_answer, join_after, leave_packet, leave_answer, leave_after, report_answer, report_after, report_bytes};
+ghost use Rattle.control.specs.Controls.{SeenRows, rows_seen, rows_entered, rows_exited, rows_summary, rows_settled};
 ghost use Rattle.control.specs.Incomings.{taken_from, takes};
-ghost use Rattle.control.specs.Nodes.{control_seen, new_control, control_busy, ticked, beat_packet, beat_answer, child_accepted, term_from, reply_body, accepts, deliver_answer, deliver_after, deliver_buffer};
+ghost use Rattle.control.specs.Nodes.{new_control, control_busy, ticked, beat_packet, beat_answer, child_accepted, term_from, reply_body, accepts, deliver_answer, deliver_after, deliver_buffer};
 
 use crate::kind::Rows;
 use crate::taking::{Incoming, classify};
@@ -18,6 +18,7 @@ use member::types::{Identity, Standing};
 use rows::row::{FromChild, Reply};
 use rows::table::RowTable;
 use std::convert::Infallible;
+use std::marker::Model;
 use wire::{Body, Packet};
 
 #[derive(Drop)]
@@ -25,10 +26,17 @@ pub struct Control {
     member: Member<Rows<RowTable>>,
 }
 
+// A control node is seen as its member, and that by its rows.
+impl Model for Control {
+    ghost Value = { Member SeenRows };
+
+    ghost view = { λ c. member_seen rows_seen c.member };
+}
+
 impl Control {
     // A node that was never joined, or a top, which always is. It refuses nothing.
     pub fn new(identity: Identity, table: RowTable) -> Control
-        ensures { control_seen result ≡ new_control identity (rows_of table) }
+        ensures { result ≡ new_control identity (rows_of table) }
     {
         let (standing, term) = if identity.upper.is_top() {
             (Standing::Joined, 1)
@@ -50,34 +58,34 @@ impl Control {
 
     // Asks the parent to be let in.
     pub fn join(&mut self, out: &mut [u8]) -> Result<usize, Refusal>
-        ensures answer { result ≡ join_answer (control_seen self.old).standing (control_seen self.old) out.old }
-        ensures after { control_seen self.new ≡ join_after (is_ok result) (control_seen self.old) }
-        ensures buffer { out.new ≡ buffer_after result (encode (join_packet (control_seen self.old))) out.old }
+        ensures answer { result ≡ join_answer self.old.standing self.old out.old }
+        ensures after { self.new ≡ join_after (is_ok result) self.old }
+        ensures buffer { out.new ≡ buffer_after result (encode (join_packet self.old)) out.old }
     {
         self.member.join(out)
     }
 
     // Leaves the tree, unless a child still counts on it.
     pub fn leave(&mut self, out: &mut [u8]) -> Result<usize, Refusal>
-        ensures answer { result ≡ leave_answer control_busy (control_seen self.old) out.old }
-        ensures after { control_seen self.new ≡ leave_after rows_exited (is_ok result) (control_seen self.old) }
-        ensures buffer { out.new ≡ buffer_after result (encode (leave_packet (control_seen self.old))) out.old }
+        ensures answer { result ≡ leave_answer control_busy self.old out.old }
+        ensures after { self.new ≡ leave_after rows_exited (is_ok result) self.old }
+        ensures buffer { out.new ≡ buffer_after result (encode (leave_packet self.old)) out.old }
     {
         self.member.leave(out)
     }
 
     // Reports what all live rows vouch for.
     pub fn report(&mut self, out: &mut [u8]) -> Result<usize, Refusal>
-        ensures answer { result ≡ report_answer rows_summary (control_seen self.old) out.old }
-        ensures after { control_seen self.new ≡ report_after rows_settled (is_ok result) (control_seen self.old) }
-        ensures buffer { out.new ≡ buffer_after result (report_bytes (rows_summary (control_seen self.old).kind) (control_seen self.old)) out.old }
+        ensures answer { result ≡ report_answer rows_summary self.old out.old }
+        ensures after { self.new ≡ report_after rows_settled (is_ok result) self.old }
+        ensures buffer { out.new ≡ buffer_after result (report_bytes (rows_summary self.old.kind) self.old) out.old }
     {
         self.member.report(out)
     }
 
     // Goes outside with all rows if the parent is silent; else rows that are silent die.
     pub fn tick(&mut self, clock: u32)
-        ensures { control_seen self.new ≡ ticked clock (control_seen self.old) }
+        ensures { self.new ≡ ticked clock self.old }
     {
         if !self.member.tick(clock) {
             let limit = self.member.identity.limit;
@@ -87,8 +95,8 @@ impl Control {
 
     // Writes a Heartbeat to all.
     pub fn beat(&self, clock: u32, out: &mut [u8]) -> Result<usize, Refusal>
-        ensures answer { result ≡ beat_answer clock (control_seen self.now) out.old }
-        ensures buffer { out.new ≡ buffer_after result (encode (beat_packet clock (control_seen self.now))) out.old }
+        ensures answer { result ≡ beat_answer clock self.now out.old }
+        ensures buffer { out.new ≡ buffer_after result (encode (beat_packet clock self.now)) out.old }
     {
         if !self.member.standing.is_joined() {
             return Err(Refusal::WrongStanding);
@@ -101,7 +109,7 @@ impl Control {
 
     // Whether a packet is taken from its writer.
     fn takes_from(&self, writer: u16, incoming: &Incoming) -> bool
-        ensures { result ≡ taken_from (control_seen self.now) writer incoming.now }
+        ensures { result ≡ taken_from self.now writer incoming.now }
     {
         match incoming {
             Incoming::Parent(_) => self.member.identity.upper.is_parent(writer),
@@ -110,9 +118,9 @@ impl Control {
     }
 
     fn hear_child(&mut self, clock: u32, writer: u16, packet: FromChild) -> Accepted
-        ensures after { control_seen self.new ≡ (child_accepted clock (control_seen self.old) writer packet).node }
-        ensures outcome { result.outcome ≡ (child_accepted clock (control_seen self.old) writer packet).outcome }
-        ensures reply { result.reply ≡ (child_accepted clock (control_seen self.old) writer packet).reply }
+        ensures after { self.new ≡ (child_accepted clock self.old writer packet).node }
+        ensures outcome { result.outcome ≡ (child_accepted clock self.old writer packet).outcome }
+        ensures reply { result.reply ≡ (child_accepted clock self.old writer packet).reply }
     {
         let joined = self.member.standing.is_joined();
         let low = self.member.kind.low;
@@ -138,9 +146,9 @@ impl Control {
         bytes: &[u8],
         reply: &mut [u8],
     ) -> Result<Delivered, Refusal>
-        ensures answer { result ≡ deliver_answer clock (control_seen self.old) (decode bytes.now) reply.old }
-        ensures after { control_seen self.new ≡ deliver_after clock (is_ok result) (control_seen self.old) (decode bytes.now) }
-        ensures buffer { reply.new ≡ deliver_buffer clock (is_ok result) (control_seen self.old) (decode bytes.now) reply.old }
+        ensures answer { result ≡ deliver_answer clock self.old (decode bytes.now) reply.old }
+        ensures after { self.new ≡ deliver_after clock (is_ok result) self.old (decode bytes.now) }
+        ensures buffer { reply.new ≡ deliver_buffer clock (is_ok result) self.old (decode bytes.now) reply.old }
     {
         deliver(self, clock, bytes, reply)
     }
@@ -151,7 +159,7 @@ impl Node for Control {
 
     ghost Seen = { Member SeenRows };
 
-    ghost seen = { control_seen };
+    ghost seen = { λ m. m };
 
     ghost own = { λ m. m.identity.address };
 
