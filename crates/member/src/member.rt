@@ -2,7 +2,7 @@
 ghost use Rattle.std.specs.Prelude.{◌≡◌, ℕ, ◌≤◌, is_ok};
 ghost use Rattle.wire.specs.Encoding.{encode, buffer_after};
 ghost use Rattle.address.specs.Addresses.{written};
-ghost use Rattle.member.specs.Members.{member_seen, upper_number, is_top, is_joined, up_packet, parent_term, join_packet, join_answer, join_after, leave_packet, leave_answer, leave_after, goes_silent, tick_after, report_answer, report_after, report_bytes, admitted, heard};
+ghost use Rattle.member.specs.Members.{member_seen, upper_number, is_top, is_joined, up_packet, parent_term, join_packet, join_answer, join_after, leave_packet, leave_answer, leave_after, gone, goes_silent, tick_after, report_answer, report_after, report_bytes, admitted, heard};
 
 use crate::kind::Kind;
 use crate::types::{FromParent, Heard, Identity, Response, Standing, Summary, Upper};
@@ -74,9 +74,9 @@ impl Identity {
 impl<K: Kind> Member<K> {
     // Asks the parent to be let in.
     pub fn join(&mut self, out: &mut [u8]) -> Result<usize, Refusal>
-        ensures answer { result ≡ join_answer self.old.standing (member_seen K.Kind.seen self.old) out.old }
-        ensures after { member_seen K.Kind.seen self.new ≡ join_after (is_ok result) (member_seen K.Kind.seen self.old) }
-        ensures buffer { out.new ≡ buffer_after result (encode (join_packet (member_seen K.Kind.seen self.old))) out.old }
+        ensures answer { result ≡ join_answer self.old.standing (member_seen K.seen self.old) out.old }
+        ensures after { member_seen K.seen self.new ≡ join_after (is_ok result) (member_seen K.seen self.old) }
+        ensures buffer { out.new ≡ buffer_after result (encode (join_packet (member_seen K.seen self.old))) out.old }
     {
         let term = match self.standing {
             Standing::Joined => return Err(Refusal::WrongStanding),
@@ -91,9 +91,9 @@ impl<K: Kind> Member<K> {
 
     // Leaves the tree and tells the parent; again where that may have been lost.
     pub fn leave(&mut self, out: &mut [u8]) -> Result<usize, Refusal>
-        ensures answer { result ≡ leave_answer K.Kind.busy (member_seen K.Kind.seen self.old) out.old }
-        ensures after { member_seen K.Kind.seen self.new ≡ leave_after K.Kind.exited (is_ok result) (member_seen K.Kind.seen self.old) }
-        ensures buffer { out.new ≡ buffer_after result (encode (leave_packet (member_seen K.Kind.seen self.old))) out.old }
+        ensures answer { result ≡ leave_answer K.busy (member_seen K.seen self.old) out.old }
+        ensures after { member_seen K.seen self.new ≡ leave_after K.exited (is_ok result) (member_seen K.seen self.old) }
+        ensures buffer { out.new ≡ buffer_after result (encode (leave_packet (member_seen K.seen self.old))) out.old }
     {
         let term = self.term;
         if self.identity.upper.is_top() || term == 0 {
@@ -103,22 +103,20 @@ impl<K: Kind> Member<K> {
             return Err(Refusal::HasLiveRow);
         }
         let len = self.identity.write_up(Body::LeaveStream { term }, out)?;
-        self.standing = Standing::Outside;
-        self.kind.exit();
+        self.go_outside();
         Ok(len)
     }
 
     // Goes outside if the parent was last heard more than the limit before the clock; tells whether it did.
     pub fn tick(&mut self, clock: u32) -> bool
-        ensures answer { result ≡ goes_silent clock (member_seen K.Kind.seen self.old) }
-        ensures after { member_seen K.Kind.seen self.new ≡ tick_after K.Kind.exited clock (member_seen K.Kind.seen self.old) }
+        ensures answer { result ≡ goes_silent clock (member_seen K.seen self.old) }
+        ensures after { member_seen K.seen self.new ≡ tick_after K.exited clock (member_seen K.seen self.old) }
     {
         if !self.standing.is_joined() || self.identity.upper.is_top() {
             return false;
         }
         if clock.saturating_sub(self.heard) > self.identity.limit {
-            self.standing = Standing::Outside;
-            self.kind.exit();
+            self.go_outside();
             true
         } else {
             false
@@ -127,10 +125,10 @@ impl<K: Kind> Member<K> {
 
     // Writes a report to the parent, and from the top to the sender.
     pub fn report(&mut self, out: &mut [u8]) -> Result<usize, Refusal>
-        ensures answer { result ≡ report_answer K.Kind.summary (member_seen K.Kind.seen self.old) out.old }
-        ensures after { member_seen K.Kind.seen self.new ≡ report_after K.Kind.settled (is_ok result) (member_seen K.Kind.seen self.old) }
-        ensures buffer { out.new ≡ buffer_after result (report_bytes (K.Kind.summary (K.Kind.seen self.old.kind)) (member_seen K.Kind.seen self.old)) out.old }
-        ensures rises { K.Kind.Sound (K.Kind.seen self.old.kind) → K.Kind.floor (K.Kind.seen self.old.kind) ≤ K.Kind.floor (K.Kind.seen self.new.kind) }
+        ensures answer { result ≡ report_answer K.summary (member_seen K.seen self.old) out.old }
+        ensures after { member_seen K.seen self.new ≡ report_after K.settled (is_ok result) (member_seen K.seen self.old) }
+        ensures buffer { out.new ≡ buffer_after result (report_bytes (K.summary (K.seen self.old.kind)) (member_seen K.seen self.old)) out.old }
+        ensures rises { K.Sound (K.seen self.old.kind) → K.floor (K.seen self.old.kind) ≤ K.floor (K.seen self.new.kind) }
     {
         if !self.standing.is_joined() {
             return Err(Refusal::WrongStanding);
@@ -152,7 +150,7 @@ impl<K: Kind> Member<K> {
 
     // What a packet of the parent makes of the member: its standing and the packet decide together.
     pub fn take(&mut self, packet: FromParent, clock: u32) -> Heard
-        ensures { (member_seen K.Kind.seen self.new, result) ≡ heard K.Kind.entered K.Kind.exited clock self.old.standing packet (member_seen K.Kind.seen self.old) }
+        ensures { (member_seen K.seen self.new, result) ≡ heard K.entered K.exited clock self.old.standing packet (member_seen K.seen self.old) }
     {
         let own = packet.term() == Some(self.term);
         let (outcome, response) = match (self.standing, packet, own) {
@@ -161,8 +159,7 @@ impl<K: Kind> Member<K> {
                 (Outcome::Taken, None)
             }
             (Standing::Waiting | Standing::Joined, FromParent::Eject { .. }, true) => {
-                self.standing = Standing::Outside;
-                self.kind.exit();
+                self.go_outside();
                 (Outcome::Taken, None)
             }
             (Standing::Waiting, FromParent::JoinAck { .. }, true)
@@ -180,9 +177,16 @@ impl<K: Kind> Member<K> {
         Heard { outcome, response }
     }
 
+    fn go_outside(&mut self)
+        ensures { member_seen K.seen self.new ≡ gone K.exited (member_seen K.seen self.old) }
+    {
+        self.standing = Standing::Outside;
+        self.kind.exit();
+    }
+
     // Joins at the parent's word.
     fn admit(&mut self, start: u32, slot: u16, clock: u32)
-        ensures { member_seen K.Kind.seen self.new ≡ admitted K.Kind.entered start slot clock (member_seen K.Kind.seen self.old) }
+        ensures { member_seen K.seen self.new ≡ admitted K.entered start slot clock (member_seen K.seen self.old) }
     {
         self.standing = Standing::Joined;
         self.start = start;
