@@ -1,8 +1,7 @@
 -- The rows of a control node together: whose row is whose, what a child's packet does, and what is reported of all
 -- live rows. Assumes nothing.
-use Rattle.std.specs.Prelude.{ℕ, ◌+◌, max, Bool, true, false, cond, not, ◌&&◌, ◌||◌, List, [], ◌∷◌, Some, None, vec_items, Option, ◌==◌, bit_and, nat_le, slice_index_or, slice_set}
+use Rattle.std.specs.Prelude.{ℕ, ◌+◌, max, Bool, false, cond, List, [], ◌∷◌, Some, None, vec_items, Option, ◌==◌, nat_le, slice_index_or, slice_set}
 use Rattle.std.specs.List.{position, find, list_any, list_all, filter, fold}
-use Rattle.wire.specs.Flags.{word_from}
 use Rattle.rows.specs.declared.row.Row.{Row}
 use Rattle.rows.specs.declared.row.FromChild.{FromChild}
 use Rattle.rows.specs.declared.row.Decision.{Decision}

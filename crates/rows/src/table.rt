@@ -12,6 +12,7 @@ use crate::row::{Decision, FromChild, Parent, Row};
 use std::alloc::{AllocError, Global};
 use std::array;
 
+// By a rule of the project a plain struct, with no invariant of its own; clauses read it as a list by `rows_of`.
 #[derive(Drop)]
 pub struct RowTable {
     rows: Vec<Row>,
@@ -91,7 +92,8 @@ impl RowTable {
     pub fn lowest(&self) -> Option<(usize, u32)>
         ensures { result ≡ lowest_row (rows_of self.now) }
     {
-        let mut best: Option<(usize, u32)> = None;
+        // By a rule of the project the minimum is gathered in a loop, with the row's index.
+        let mut best = None;
         for (slot, row) in self.rows.iter().enumerate() {
             best = lower(best, slot, row);
         }
@@ -110,7 +112,8 @@ impl RowTable {
             .unwrap_or(0)
     }
 
-    // What the packet of a child makes of its row, and of no other; none for a number that is no child's.
+    // What the packet of a child makes of its row, and of no other; none for a number that is no child's. The slot is
+    // found here, so the caller has only the other two parts of a `Parent`.
     pub fn take(
         &mut self,
         child: u16,
