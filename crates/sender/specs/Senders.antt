@@ -1,5 +1,6 @@
 -- What each call of a sender answers, and what the sender and the buffer then hold. Assumes nothing.
 use Rattle.std.specs.Prelude.{◌≡◌, ℕ, ◌+◌, ◌-◌, ◌<◌, ◌≤◌, Bool, true, false, cond, not, ◌&&◌, List, Some, None, Ok, Err, Option, Result, ◌==◌, nat_le, nat_lt}
+use Rattle.std.specs.declared.convert.Infallible.{Infallible}
 use Rattle.answer.specs.declared.Refusal.{Refusal}
 use Rattle.answer.specs.declared.Refusal.TheVariants.{OutOfRange, BadPayload, WindowFull, Exhausted, Full}
 use Rattle.answer.specs.declared.Outcome.TheVariants.{Taken}
@@ -22,6 +23,13 @@ use Rattle.sender.specs.WantedNumbers.{wants, none_wanted, missing_of}
 -- a sender by the meaning of its queue, and by whether its stream has ended
 abbrev pub sender_seen : {Q P : Type 0} → (Q → Meaning) → (P → Bool) → Sender Q P → Sender Meaning Bool
 sender_seen meaning ended s = record { address = s.address; top = s.top; highest = s.highest; released = s.released; serial = s.serial; wanted = s.wanted; queue = meaning s.queue; phase = ended s.phase }
+
+-- a sender whose stream is open, and one whose stream has ended
+abbrev pub open_seen : {Q P : Type 0} → (Q → Meaning) → Sender Q P → Sender Meaning Bool
+open_seen meaning s = sender_seen meaning (λ _. false) s
+
+abbrev pub ended_seen : {Q P : Type 0} → (Q → Meaning) → Sender Q P → Sender Meaning Bool
+ended_seen meaning s = sender_seen meaning (λ _. true) s
 
 -- what a sender can be made with: the StreamID is at least 32,768, and its own number and the top's are two, none of them 0
 abbrev pub good_making : Address → ℕ → Bool
@@ -73,8 +81,11 @@ abbrev pub ended_after : Sender Meaning Bool → Sender Meaning Bool
 ended_after s = record { address = s.address; top = s.top; highest = s.highest; released = s.released; serial = s.serial; wanted = s.wanted; queue = s.queue; phase = true }
 
 -- announce: NullData, or EOS once the stream has ended, with the highest number, to all
+abbrev pub announcement : Bool → ℕ → Body Infallible
+announcement ended highest = cond ended (body.Eos highest) (body.NullData highest)
+
 abbrev pub announce_packet : Sender Meaning Bool → Message (List ℕ)
-announce_packet s = packet_of s.address 0 (cond s.phase (body.Eos s.highest) (body.NullData s.highest))
+announce_packet s = packet_of s.address 0 (announcement s.phase s.highest)
 
 -- deliver: a HACK of the top is all that a sender takes
 abbrev pub hack_in : Body (List ℕ) → Option Hack
