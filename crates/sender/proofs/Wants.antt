@@ -3,6 +3,7 @@ use Rattle.std.proofs.Common.{◌≡◌, ℕ, ◌+◌, ◌-◌, ◌*◌, ◌/◌
 use lib.ListN.{get_or-replicate}
 use Rattle.std.proofs.lemmas.List.FromFn.{get_or-map-range_with_len, length-map-range_with_len}
 use Rattle.std.proofs.lemmas.List.{get_or_past}
+use Rattle.std.proofs.Math.Bool.{and-false}
 use Rattle.std.proofs.lemmas.Bool.{cases_lt, le-leb, lt-leb}
 use Rattle.wire.specs.Flags.{flag_at, held_by, is_missing, word_from}
 use Rattle.wire.specs.declared.packet.Hack.{Hack}
@@ -10,10 +11,6 @@ use Rattle.wire.proofs.Words.{flag_none}
 use Rattle.wire.proofs.Packed.{word_from_flag}
 use Rattle.sender.specs.declared.wanted.Wanted.{Wanted}
 use Rattle.sender.specs.WantedNumbers.{wants, none_wanted, missing_of}
-
-false_right : (b : Bool) → (b && false) ≡ false
-false_right true = refl
-false_right false = refl
 
 as_test : (b : Bool) → eqb (cond b 1 0) 1 ≡ b
 as_test true = refl
@@ -25,7 +22,7 @@ not_before w n l = ap (λ b. b && eqb (flag_at (get_or w.words (n / 32 - w.first
 
 pub not_in_zero : (w : Wanted) (n : ℕ) → get_or w.words (n / 32 - w.first) 0 ≡ 0 → wants w n ≡ false
 not_in_zero w n z =
-    ap (λ x. leb w.first (n / 32) && eqb (flag_at x (n % 32)) 1) z ∙ ap (λ x. leb w.first (n / 32) && eqb x 1) (flag_none (n % 32)) ∙ false_right (leb w.first (n / 32))
+    ap (λ x. leb w.first (n / 32) && eqb (flag_at x (n % 32)) 1) z ∙ ap (λ x. leb w.first (n / 32) && eqb x 1) (flag_none (n % 32)) ∙ and-false (leb w.first (n / 32))
 
 -- from the first word on the flag tells
 pub by_flag : (w : Wanted) (n : ℕ) → w.first ≤ n / 32 → wants w n ≡ eqb (flag_at (get_or w.words (n / 32 - w.first) 0) (n % 32)) 1
@@ -43,7 +40,7 @@ missing_below : (h : Hack) (n : ℕ) → n < h.lsn → is_missing h n ≡ false
 missing_below h n l = ap (λ b. b && (leb n h.hsn && not (held_by h n))) (lt-leb h.lsn n l)
 
 missing_above : (h : Hack) (n : ℕ) → h.hsn < n → is_missing h n ≡ false
-missing_above h n l = ap (λ b. leb h.lsn n && (b && not (held_by h n))) (lt-leb n h.hsn l) ∙ false_right (leb h.lsn n)
+missing_above h n l = ap (λ b. leb h.lsn n && (b && not (held_by h n))) (lt-leb n h.hsn l) ∙ and-false (leb h.lsn n)
 
 -- nine words have room for all from LSN to HSN
 pub missing_wants : (h : Hack) (n : ℕ) → h.hsn ≤ h.lsn + 255 → wants (missing_of h) n ≡ is_missing h n

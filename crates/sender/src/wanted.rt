@@ -22,6 +22,7 @@ fn is_set(word: u32, position: u32) -> bool
 }
 
 impl Wanted {
+    #[tactic(auto, using(crate::proofs::Wants::none_wants))]
     pub(crate) fn none() -> Wanted
         ensures is { result ≡ none_wanted }
         ensures nothing { (n : ℕ) → wants result n ≡ false }
