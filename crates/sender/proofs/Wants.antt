@@ -4,6 +4,7 @@ use lib.ListN.{get_or-replicate}
 use Rattle.std.proofs.lemmas.List.FromFn.{get_or-map-range_with_len, length-map-range_with_len}
 use Rattle.std.proofs.lemmas.List.{get_or_past}
 use Rattle.std.proofs.Math.Bool.{and-false}
+use Rattle.std.proofs.lemmas.Bool.Decides.{nat_tests}
 use Rattle.std.proofs.lemmas.Bool.{cases_lt, le-leb, lt-leb}
 use Rattle.wire.specs.Flags.{flag_at, held_by, is_missing, word_from}
 use Rattle.wire.specs.declared.packet.Hack.{Hack}
@@ -67,15 +68,7 @@ missing_wants h n bound =
 
 -- what is missing lies from LSN to HSN
 pub missing_from : (h : Hack) (n : ℕ) → is_missing h n ≡ true → h.lsn ≤ n
-missing_from h n e =
-    elim (cases_lt n h.lsn) [
-      | inl below ↦ let f = missing_below h n below in let z : true ≡ false = cc in absurd (grind arith)
-      | inr from ↦ from
-    ]
+missing_from h n e = grind (arith, nat_tests)
 
 pub missing_through : (h : Hack) (n : ℕ) → is_missing h n ≡ true → n ≤ h.hsn
-missing_through h n e =
-    elim (cases_lt h.hsn n) [
-      | inl above ↦ let f = missing_above h n above in let z : true ≡ false = cc in absurd (grind arith)
-      | inr through ↦ through
-    ]
+missing_through h n e = grind (arith, nat_tests)
