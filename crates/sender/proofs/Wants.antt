@@ -1,12 +1,12 @@
 -- Which numbers are wanted: none at first, and then what a HACK says is missing. Assumes nothing.
-use Rattle.std.proofs.Common.{◌≡◌, ℕ, ◌+◌, ◌-◌, ◌*◌, ◌/◌, ◌%◌, ◌<◌, ◌≤◌, Bool, true, false, cond, not, ◌&&◌, eqb, leb, length, get_or, replicate, sym, refl, ap, ◌∙◌, inl, inr, arith}
+use Rattle.std.proofs.Common.{◌≡◌, ℕ, ◌+◌, ◌-◌, ◌*◌, ◌/◌, ◌%◌, ◌<◌, ◌≤◌, Bool, true, false, cond, ◌&&◌, eqb, leb, length, get_or, replicate, sym, refl, ap, ◌∙◌, inl, inr, arith}
 use lib.ListN.{get_or-replicate}
 use Rattle.std.proofs.lemmas.List.FromFn.{get_or-map-range_with_len, length-map-range_with_len}
 use Rattle.std.proofs.lemmas.List.{get_or_past}
 use Rattle.std.proofs.Math.Bool.{and-false}
 use Rattle.std.proofs.lemmas.Bool.Decides.{nat_tests}
-use Rattle.std.proofs.lemmas.Bool.{cases_lt, le-leb, lt-leb}
-use Rattle.wire.specs.Flags.{flag_at, held_by, is_missing, word_from}
+use Rattle.std.proofs.lemmas.Bool.{cases_lt}
+use Rattle.wire.specs.Flags.{flag_at, is_missing, word_from}
 use Rattle.wire.specs.declared.packet.Hack.{Hack}
 use Rattle.wire.proofs.Words.{flag_none}
 use Rattle.wire.proofs.Packed.{word_from_flag}
@@ -19,7 +19,7 @@ as_test false = refl
 
 -- a number before the first word, or whose word is 0, is not wanted
 pub not_before : (w : Wanted) (n : ℕ) → n / 32 < w.first → wants w n ≡ false
-not_before w n l = ap (λ b. b && eqb (flag_at (get_or w.words (n / 32 - w.first) 0) (n % 32)) 1) (lt-leb w.first (n / 32) l)
+not_before w n l = grind (arith, nat_tests)
 
 pub not_in_zero : (w : Wanted) (n : ℕ) → get_or w.words (n / 32 - w.first) 0 ≡ 0 → wants w n ≡ false
 not_in_zero w n z =
@@ -27,7 +27,7 @@ not_in_zero w n z =
 
 -- from the first word on the flag tells
 pub by_flag : (w : Wanted) (n : ℕ) → w.first ≤ n / 32 → wants w n ≡ eqb (flag_at (get_or w.words (n / 32 - w.first) 0) (n % 32)) 1
-by_flag w n l = ap (λ b. b && eqb (flag_at (get_or w.words (n / 32 - w.first) 0) (n % 32)) 1) (le-leb w.first (n / 32) l)
+by_flag w n l = grind (arith, nat_tests)
 
 pub none_wants : (n : ℕ) → wants none_wanted n ≡ false
 none_wants n =
@@ -38,10 +38,10 @@ none_wants n =
 
 -- outside LSN to HSN nothing is missing
 missing_below : (h : Hack) (n : ℕ) → n < h.lsn → is_missing h n ≡ false
-missing_below h n l = ap (λ b. b && (leb n h.hsn && not (held_by h n))) (lt-leb h.lsn n l)
+missing_below h n l = grind (arith, nat_tests)
 
 missing_above : (h : Hack) (n : ℕ) → h.hsn < n → is_missing h n ≡ false
-missing_above h n l = ap (λ b. leb h.lsn n && (b && not (held_by h n))) (lt-leb n h.hsn l) ∙ and-false (leb h.lsn n)
+missing_above h n l = grind (arith, nat_tests)
 
 -- nine words have room for all from LSN to HSN
 pub missing_wants : (h : Hack) (n : ℕ) → h.hsn ≤ h.lsn + 255 → wants (missing_of h) n ≡ is_missing h n

@@ -8,8 +8,8 @@ use address::Address;
 use store::Store;
 
 // `highest` is the last number offered; every number through `released` has been released; `serial` is that of the
-// last report taken. There is no model: clauses give back the queue itself, and what they say of the rest is
-// `sender_seen` by the meaning of a bound that the struct does not have.
+// last report taken. There is no model: a clause may ask for the queue itself, and the meaning of the queue, by which
+// `sender_seen` reads the rest, comes only with the bound `Store`.
 #[derive(Drop)]
 pub struct Sender<Q, P> {
     pub(crate) address: Address,
