@@ -23,10 +23,7 @@ impl RowTable {
     pub fn new(heap: Global, children: &[u16]) -> Result<RowTable, AllocError>
         ensures { IfOk result (λ t. rows_of t ≡ map new_row children.now) }
     {
-        let mut rows = Vec::new(heap);
-        for child in children {
-            rows.push(Row::new(*child))?;
-        }
+        let rows = children.iter().map(|child| Row::new(*child)).collect(heap)?;
         Ok(RowTable { rows })
     }
 
