@@ -35,14 +35,14 @@ new_row child = record { child = child; live = false; start = 1; heard = 0; hack
 
 -- a row that counts no longer keeps all else
 abbrev pub dead_row : Row → Row
-dead_row r = record { child = r.child; live = false; start = r.start; heard = r.heard; hack = r.hack }
+dead_row r = record r { live = false }
 
 -- a child that left at a term
 abbrev pub left_row : ℕ → Row → Row
-left_row t r = record { child = r.child; live = false; start = r.start; heard = r.heard; hack = record { term = t; serial = r.hack.serial; lsn = r.hack.lsn; hsn = r.hack.hsn; flags = r.hack.flags } }
+left_row t r = record r { live = false; hack = record r.hack { term = t } }
 
 abbrev pub heard_row : ℕ → Row → Row
-heard_row clock r = record { child = r.child; live = r.live; start = r.start; heard = clock; hack = r.hack }
+heard_row clock r = record r { heard = clock }
 
 -- a child that joins at a term, from number `low` on: nothing is held yet
 abbrev pub admitted_row : ℕ → ℕ → ℕ → Row → Row
@@ -50,7 +50,7 @@ admitted_row low t clock r = record { child = r.child; live = true; start = low;
 
 -- a report that is taken
 abbrev pub told_row : Hack → ℕ → Row → Row
-told_row h clock r = record { child = r.child; live = r.live; start = r.start; heard = clock; hack = h }
+told_row h clock r = record r { heard = clock; hack = h }
 
 -- silent for more than the limit; an earlier clock counts as no silence
 abbrev pub ticked_row : ℕ → ℕ → Row → Row

@@ -38,8 +38,12 @@ is_live_at t (Some r) = live_at t r
 abbrev pub has_live_row : ℕ → ℕ → List Row → Bool
 has_live_row child t rs = is_live_at t (find (λ r. r.child == child) rs)
 
+-- whether any row is live, and those that are
 abbrev pub any_live : List Row → Bool
 any_live rs = list_any (λ r. r.live) rs
+
+abbrev pub live_rows : List Row → List Row
+live_rows rs = filter (λ r. r.live) rs
 
 -- the better of the lowest so far and the row in a slot: the first live row with the lowest low, and that low
 abbrev pub lower_row : ℕ → Row → Option (ℕ × ℕ) → Option (ℕ × ℕ)
@@ -52,9 +56,6 @@ lowest_from slot best (r ∷ rs) = lowest_from (slot + 1) (lower_row slot r best
 
 abbrev pub lowest_row : List Row → Option (ℕ × ℕ)
 lowest_row rs = lowest_from 0 None rs
-
-abbrev pub live_rows : List Row → List Row
-live_rows rs = filter (λ r. r.live) rs
 
 -- the highest high of the live rows, 0 where there is none
 abbrev pub highest_high : List Row → ℕ

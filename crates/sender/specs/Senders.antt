@@ -71,14 +71,14 @@ offer_answer s xs out =
     (Err BadPayload)
 
 abbrev pub offered : Sender Meaning Bool → List ℕ → Sender Meaning Bool
-offered s xs = record { address = s.address; top = s.top; highest = s.highest + 1; released = s.released; serial = s.serial; wanted = s.wanted; queue = put_after true s.queue (s.highest + 1) xs; phase = s.phase }
+offered s xs = record s { highest = s.highest + 1; queue = put_after true s.queue (s.highest + 1) xs }
 
 abbrev pub offer_after : Bool → Sender Meaning Bool → List ℕ → Sender Meaning Bool
 offer_after done s xs = cond done (offered s xs) s
 
 -- end: all stays, and the stream has ended
 abbrev pub ended_after : Sender Meaning Bool → Sender Meaning Bool
-ended_after s = record { address = s.address; top = s.top; highest = s.highest; released = s.released; serial = s.serial; wanted = s.wanted; queue = s.queue; phase = true }
+ended_after s = record s { phase = true }
 
 -- announce: NullData, or EOS once the stream has ended, with the highest number, to all
 abbrev pub announcement : Bool → ℕ → Body Infallible
@@ -112,7 +112,7 @@ is_fresh s h = h.term == 1 && (nat_lt s.serial h.serial && (nat_le s.released (h
 
 -- a fresh one releases through its stable, and its missing numbers are wanted, and no others
 abbrev pub reported : Sender Meaning Bool → Hack → Sender Meaning Bool
-reported s h = record { address = s.address; top = s.top; highest = s.highest; released = h.lsn - 1; serial = h.serial; wanted = missing_of h; queue = forget_after s.queue (h.lsn - 1); phase = s.phase }
+reported s h = record s { released = h.lsn - 1; serial = h.serial; wanted = missing_of h; queue = forget_after s.queue (h.lsn - 1) }
 
 abbrev pub accepts_report : Sender Meaning Bool → ℕ → Hack → Acceptance (Sender Meaning Bool)
 accepts_report s writer h = cond (is_fresh s h) (record { node = reported s h; outcome = Taken; reply = None }) (unchanged s)

@@ -55,6 +55,10 @@ pub(crate) fn report(serial: u32, lsn: u32, hsn: u32, first: u32) -> Hack {
 // What became of a packet, or why it was refused.
 pub(crate) type Answer = Result<Outcome, Refusal>;
 
+pub(crate) const STALE: Answer = Ok(Outcome::Stale);
+
+pub(crate) const TAKEN: Answer = Ok(Outcome::Taken);
+
 pub(crate) fn told(answer: Result<Delivered, Refusal>) -> Answer {
     answer.map(|delivered| delivered.outcome)
 }

@@ -1,7 +1,7 @@
 // Offers and announcements.
-use crate::common::{SENDER, TOP, bring, offer, offer_some, open, report};
+use crate::common::{SENDER, TAKEN, TOP, bring, offer, offer_some, open, report};
 use address::Address;
-use answer::{Outcome, Refusal};
+use answer::Refusal;
 use memory::journal::Journal;
 use memory::slots::SlotStore;
 use sender::check as check_making;
@@ -43,11 +43,7 @@ fn fills_the_window<Q: MadeOver + Drop>(
     );
     assert_eq!(rt; sender.highest(), 256, "{kind}");
     let held = Body::Hack(report(1, 2, 1, 0));
-    assert_eq!(rt;
-        bring(rt, &mut sender, TOP, 100, held)?,
-        Ok(Outcome::Taken),
-        "{kind}"
-    );
+    assert_eq!(rt; bring(rt, &mut sender, TOP, 100, held)?, TAKEN, "{kind}");
     assert_eq!(rt; sender.released(), 1, "{kind}");
     assert_eq!(rt; offer(rt, &mut sender, &[7], 23), Ok(23), "{kind}");
     assert_eq!(rt;

@@ -1,6 +1,6 @@
 // Reports of the top, taken and stale, and packets that are refused.
-use crate::common::{SENDER, TOP, bring, offer_some, open, report, told};
-use answer::{Outcome, Refusal};
+use crate::common::{SENDER, STALE, TAKEN, TOP, bring, offer_some, open, report, told};
+use answer::Refusal;
 use memory::journal::Journal;
 use memory::slots::SlotStore;
 use sender::Open;
@@ -15,10 +15,7 @@ fn reported<Q: MadeOver + Drop>(rt: &impl Abort, heap: Global) -> Result<Open<Q>
     let mut sender = open::<Q>(heap, 5180)?;
     offer_some(rt, &mut sender, 3);
     let first = Body::Hack(report(5, 2, 3, 0xd000_0000));
-    assert_eq!(rt;
-        bring(rt, &mut sender, TOP, 100, first)?,
-        Ok(Outcome::Taken)
-    );
+    assert_eq!(rt; bring(rt, &mut sender, TOP, 100, first)?, TAKEN);
     Ok(sender)
 }
 
@@ -47,27 +44,19 @@ fn old_in_each_way<Q: MadeOver + Drop>(
     let other_term = Body::Hack(Hack { term: 2, ..fresh });
     assert_eq!(rt;
         bring(rt, &mut sender, TOP, 0, other_term)?,
-        Ok(Outcome::Stale),
+        STALE,
         "{kind}"
     );
     let same_serial = Body::Hack(Hack { serial: 5, ..fresh });
     assert_eq!(rt;
         bring(rt, &mut sender, TOP, 0, same_serial)?,
-        Ok(Outcome::Stale),
+        STALE,
         "{kind}"
     );
     let back = Body::Hack(report(6, 1, 3, 0x8000_0000));
-    assert_eq!(rt;
-        bring(rt, &mut sender, TOP, 0, back)?,
-        Ok(Outcome::Stale),
-        "{kind}"
-    );
+    assert_eq!(rt; bring(rt, &mut sender, TOP, 0, back)?, STALE, "{kind}");
     let ahead = Body::Hack(report(6, 2, 4, 0xd000_0000));
-    assert_eq!(rt;
-        bring(rt, &mut sender, TOP, 0, ahead)?,
-        Ok(Outcome::Stale),
-        "{kind}"
-    );
+    assert_eq!(rt; bring(rt, &mut sender, TOP, 0, ahead)?, STALE, "{kind}");
     check_reported(rt, sender);
     Ok(())
 }
@@ -83,18 +72,10 @@ fn all_held<Q: MadeOver + Drop>(rt: &impl Abort, kind: &str, heap: Global) -> Re
     let mut sender = reported::<Q>(rt, heap)?.end();
     assert!(rt; sender.wanted().wants(2), "{kind}");
     let all = Body::Hack(report(6, 4, 3, 0));
-    assert_eq!(rt;
-        bring(rt, &mut sender, TOP, 0, all)?,
-        Ok(Outcome::Taken),
-        "{kind}"
-    );
+    assert_eq!(rt; bring(rt, &mut sender, TOP, 0, all)?, TAKEN, "{kind}");
     assert_eq!(rt; sender.released(), 3, "{kind}");
     assert!(rt; !sender.wanted().wants(2), "{kind}");
-    assert_eq!(rt;
-        bring(rt, &mut sender, TOP, 0, all)?,
-        Ok(Outcome::Stale),
-        "{kind}"
-    );
+    assert_eq!(rt; bring(rt, &mut sender, TOP, 0, all)?, STALE, "{kind}");
     assert!(rt; !sender.into_queue().has(3), "{kind}");
     Ok(())
 }
