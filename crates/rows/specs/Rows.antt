@@ -25,28 +25,32 @@ high_of r = r.hack.hsn
 abbrev pub row_holds : Row → ℕ → Bool
 row_holds r n = held_by r.hack n
 
+-- a report of term t by which nothing from number `low` on is held
+abbrev pub nothing_held : ℕ → ℕ → Hack
+nothing_held t low = record { term = t; serial = 0; lsn = low; hsn = low - 1; flags = replicate 9 0 }
+
 -- a child that never joined
 abbrev pub new_row : ℕ → Row
-new_row child = record { child = child; live = false; start = 1; heard = 0; hack = record { term = 0; serial = 0; lsn = 1; hsn = 0; flags = replicate 9 0 } }
+new_row child = record { child = child; live = false; start = 1; heard = 0; hack = nothing_held 0 1 }
 
 -- a row that counts no longer keeps all else
 abbrev pub dead_row : Row → Row
-dead_row r = record { child = r.child; live = false; start = r.start; heard = r.heard; hack = r.hack }
+dead_row r = record r { live = false }
 
 -- a child that left at a term
 abbrev pub left_row : ℕ → Row → Row
-left_row t r = record { child = r.child; live = false; start = r.start; heard = r.heard; hack = record { term = t; serial = r.hack.serial; lsn = r.hack.lsn; hsn = r.hack.hsn; flags = r.hack.flags } }
+left_row t r = record r { live = false; hack = record r.hack { term = t } }
 
 abbrev pub heard_row : ℕ → Row → Row
-heard_row clock r = record { child = r.child; live = r.live; start = r.start; heard = clock; hack = r.hack }
+heard_row clock r = record r { heard = clock }
 
 -- a child that joins at a term, from number `low` on: nothing is held yet
 abbrev pub admitted_row : ℕ → ℕ → ℕ → Row → Row
-admitted_row low t clock r = record { child = r.child; live = true; start = low; heard = clock; hack = record { term = t; serial = 0; lsn = low; hsn = low - 1; flags = replicate 9 0 } }
+admitted_row low t clock r = record { child = r.child; live = true; start = low; heard = clock; hack = nothing_held t low }
 
 -- a report that is taken
 abbrev pub told_row : Hack → ℕ → Row → Row
-told_row h clock r = record { child = r.child; live = r.live; start = r.start; heard = clock; hack = h }
+told_row h clock r = record r { heard = clock; hack = h }
 
 -- silent for more than the limit; an earlier clock counts as no silence
 abbrev pub ticked_row : ℕ → ℕ → Row → Row
@@ -62,19 +66,29 @@ stale r reply = record { row = r; outcome = Stale; reply = reply }
 abbrev pub taken : Row → Option Reply → Decision
 taken r reply = record { row = r; outcome = Taken; reply = reply }
 
--- what a child's packet makes of its row
-abbrev pub decision : Parent → ℕ → FromChild → Row → Decision
-decision p clock (JoinStream t) r =
+-- what each packet of a child makes of its row
+abbrev pub join_decision : Parent → ℕ → ℕ → Row → Decision
+join_decision p clock t r =
     cond p.joined
     (cond (nat_lt (term_of r) t) (taken (admitted_row p.low t clock r) (Some (JoinConfirm p.low p.slot)))
     (cond (live_at t r) (taken (heard_row clock r) (Some (JoinConfirm r.start p.slot)))
     (stale r (Some Eject))))
     (stale r (Some JoinAck))
-decision p clock (LeaveStream t) r =
-    cond (nat_le (term_of r) t) (taken (left_row t r) (Some LeaveConfirm)) (stale r (Some LeaveConfirm))
-decision p clock (HackOf h) r =
+
+abbrev pub leave_decision : ℕ → Row → Decision
+leave_decision t r = cond (nat_le (term_of r) t) (taken (left_row t r) (Some LeaveConfirm)) (stale r (Some LeaveConfirm))
+
+abbrev pub report_decision : ℕ → Hack → Row → Decision
+report_decision clock h r =
     cond (live_at h.term r)
     (cond (nat_lt r.hack.serial h.serial && nat_le (low_of r) h.lsn) (taken (told_row h clock r) None) (stale r None))
     (stale r (Some Eject))
-decision p clock (HeartbeatResponse t) r =
-    cond (live_at t r) (taken (heard_row clock r) None) (stale r (Some Eject))
+
+abbrev pub response_decision : ℕ → ℕ → Row → Decision
+response_decision clock t r = cond (live_at t r) (taken (heard_row clock r) None) (stale r (Some Eject))
+
+abbrev pub decision : Parent → ℕ → FromChild → Row → Decision
+decision p clock (JoinStream t) r = join_decision p clock t r
+decision p clock (LeaveStream t) r = leave_decision t r
+decision p clock (HackOf h) r = report_decision clock h r
+decision p clock (HeartbeatResponse t) r = response_decision clock t r

@@ -1,12 +1,13 @@
 // What a control node knows of one child, and what a packet of the child, or the clock, makes of it.
 ghost use Rattle.std.specs.Prelude.{◌≡◌};
-ghost use Rattle.rows.specs.Rows.{new_row, dead_row, heard_row, admitted_row, ticked_row, row_holds, live_at, decision};
+ghost use Rattle.rows.specs.Rows.{nothing_held, new_row, dead_row, heard_row, admitted_row, ticked_row, row_holds, live_at, join_decision, leave_decision, report_decision, response_decision, decision};
 
 use answer::Outcome;
 use wire::Hack;
 
 // `hack` has the term, and of the last report that was taken since the row became live the serial, LSN (low), HSN (high)
-// and flags; before the first report it says that nothing from `start` on is held.
+// and flags; before the first report it says that nothing from `start` on is held. All of this stays in a dead row, and
+// its term still counts: `live` is no Option around it.
 #[derive(Clone, Copy)]
 pub struct Row {
     pub child: u16,
@@ -26,7 +27,7 @@ pub enum FromChild {
 }
 
 // What is written back to the child, with the term of its packet.
-#[derive(Clone, Copy)]
+#[derive(Clone, Copy, PartialEq, Eq, Debug)]
 pub enum Reply {
     JoinAck,
     JoinConfirm { start: u32, slot: usize },
@@ -51,24 +52,42 @@ pub struct Parent {
     pub slot: usize,
 }
 
+// A report of a term by which nothing from `low` on is held.
+fn nothing_held(term: u32, low: u32) -> Hack
+    ensures { result ≡ nothing_held term low }
+{
+    Hack {
+        term,
+        serial: 0,
+        lsn: low,
+        hsn: low.saturating_sub(1),
+        flags: [0; 9],
+    }
+}
+
+impl Decision {
+    fn new(outcome: Outcome, row: Row, reply: Option<Reply>) -> Decision
+        ensures { result ≡ record { row = row; outcome = outcome; reply = reply } }
+    {
+        Decision {
+            row,
+            outcome,
+            reply,
+        }
+    }
+}
+
 impl Row {
     // A child that never joined.
     pub fn new(child: u16) -> Row
         ensures { result ≡ new_row child }
     {
-        let hack = Hack {
-            term: 0,
-            serial: 0,
-            lsn: 1,
-            hsn: 0,
-            flags: [0; 9],
-        };
         Row {
             child,
             live: false,
             start: 1,
             heard: 0,
-            hack,
+            hack: nothing_held(0, 1),
         }
     }
 
@@ -80,11 +99,11 @@ impl Row {
     }
 
     // Counts no longer, and is otherwise as it was.
-    pub fn died(self) -> Row
+    pub fn died(mut self) -> Row
         ensures { result ≡ dead_row self }
     {
-        let live = false;
-        Row { live, ..self }
+        self.live = false;
+        self
     }
 
     // Dies if it was last heard more than `limit` before the clock.
@@ -97,129 +116,6 @@ impl Row {
             self
         }
     }
-}
-
-fn stale(row: Row, reply: Option<Reply>) -> Decision
-    ensures { result ≡ record { row = row; outcome = Outcome.Stale; reply = reply } }
-{
-    Decision {
-        row,
-        outcome: Outcome::Stale,
-        reply,
-    }
-}
-
-fn taken(row: Row, reply: Option<Reply>) -> Decision
-    ensures { result ≡ record { row = row; outcome = Outcome.Taken; reply = reply } }
-{
-    Decision {
-        row,
-        outcome: Outcome::Taken,
-        reply,
-    }
-}
-
-impl Row {
-    // Whether the row is live at a packet's term.
-    pub(crate) fn live_at(self, term: u32) -> bool
-        ensures { result ≡ live_at term self }
-    {
-        self.live && term == self.hack.term
-    }
-
-    fn heard_at(self, clock: u32) -> Row
-        ensures { result ≡ heard_row clock self }
-    {
-        Row {
-            heard: clock,
-            ..self
-        }
-    }
-
-    // Live anew: nothing from the parent's low on is held yet.
-    fn admitted(self, low: u32, term: u32, clock: u32) -> Row
-        ensures { result ≡ admitted_row low term clock self }
-    {
-        let hack = Hack {
-            term,
-            serial: 0,
-            lsn: low,
-            hsn: low.saturating_sub(1),
-            flags: [0; 9],
-        };
-        Row {
-            child: self.child,
-            live: true,
-            start: low,
-            heard: clock,
-            hack,
-        }
-    }
-
-    fn asked_in(self, parent: Parent, term: u32, clock: u32) -> Decision
-        ensures { result ≡ decision parent clock (FromChild.JoinStream term) self }
-    {
-        let Parent { joined, low, slot } = parent;
-        if !joined {
-            return stale(self, Some(Reply::JoinAck));
-        }
-        if self.hack.term < term {
-            return taken(
-                self.admitted(low, term, clock),
-                Some(Reply::JoinConfirm { start: low, slot }),
-            );
-        }
-        if self.live_at(term) {
-            let start = self.start;
-            return taken(
-                self.heard_at(clock),
-                Some(Reply::JoinConfirm { start, slot }),
-            );
-        }
-        stale(self, Some(Reply::Eject))
-    }
-
-    fn asked_out(self, parent: Parent, term: u32, clock: u32) -> Decision
-        ensures { result ≡ decision parent clock (FromChild.LeaveStream term) self }
-    {
-        if term < self.hack.term {
-            return stale(self, Some(Reply::LeaveConfirm));
-        }
-        let hack = Hack { term, ..self.hack };
-        let row = Row {
-            live: false,
-            hack,
-            ..self
-        };
-        taken(row, Some(Reply::LeaveConfirm))
-    }
-
-    fn told(self, parent: Parent, hack: Hack, clock: u32) -> Decision
-        ensures { result ≡ decision parent clock (FromChild.Hack hack) self }
-    {
-        if !self.live_at(hack.term) {
-            return stale(self, Some(Reply::Eject));
-        }
-        if self.hack.serial < hack.serial && self.hack.lsn <= hack.lsn {
-            let row = Row {
-                heard: clock,
-                hack,
-                ..self
-            };
-            return taken(row, None);
-        }
-        stale(self, None)
-    }
-
-    fn responded(self, parent: Parent, term: u32, clock: u32) -> Decision
-        ensures { result ≡ decision parent clock (FromChild.HeartbeatResponse term) self }
-    {
-        if self.live_at(term) {
-            taken(self.heard_at(clock), None)
-        } else {
-            stale(self, Some(Reply::Eject))
-        }
-    }
 
     // What the child's packet makes of its row.
     pub fn decide(self, parent: Parent, packet: FromChild, clock: u32) -> Decision
@@ -227,9 +123,94 @@ impl Row {
     {
         match packet {
             FromChild::JoinStream { term } => self.asked_in(parent, term, clock),
-            FromChild::LeaveStream { term } => self.asked_out(parent, term, clock),
-            FromChild::Hack(hack) => self.told(parent, hack, clock),
-            FromChild::HeartbeatResponse { term } => self.responded(parent, term, clock),
+            FromChild::LeaveStream { term } => self.asked_out(term),
+            FromChild::Hack(hack) => self.told(hack, clock),
+            FromChild::HeartbeatResponse { term } => self.responded(term, clock),
+        }
+    }
+
+    // Whether the row is live at a packet's term.
+    pub(crate) fn live_at(self, term: u32) -> bool
+        ensures { result ≡ live_at term self }
+    {
+        self.live && term == self.hack.term
+    }
+
+    fn heard_at(mut self, clock: u32) -> Row
+        ensures { result ≡ heard_row clock self }
+    {
+        self.heard = clock;
+        self
+    }
+
+    // Live anew: nothing from the parent's low on is held yet.
+    fn admitted(self, low: u32, term: u32, clock: u32) -> Row
+        ensures { result ≡ admitted_row low term clock self }
+    {
+        Row {
+            child: self.child,
+            live: true,
+            start: low,
+            heard: clock,
+            hack: nothing_held(term, low),
+        }
+    }
+
+    fn asked_in(self, parent: Parent, term: u32, clock: u32) -> Decision
+        ensures { result ≡ join_decision parent clock term self }
+    {
+        let Parent { joined, low, slot } = parent;
+        if !joined {
+            return Decision::new(Outcome::Stale, self, Some(Reply::JoinAck));
+        }
+        if self.hack.term < term {
+            let confirm = Reply::JoinConfirm { start: low, slot };
+            let row = self.admitted(low, term, clock);
+            return Decision::new(Outcome::Taken, row, Some(confirm));
+        }
+        if self.live_at(term) {
+            let start = self.start;
+            let confirm = Reply::JoinConfirm { start, slot };
+            return Decision::new(Outcome::Taken, self.heard_at(clock), Some(confirm));
+        }
+        Decision::new(Outcome::Stale, self, Some(Reply::Eject))
+    }
+
+    fn asked_out(self, term: u32) -> Decision
+        ensures { result ≡ leave_decision term self }
+    {
+        if term < self.hack.term {
+            return Decision::new(Outcome::Stale, self, Some(Reply::LeaveConfirm));
+        }
+        let mut row = self.died();
+        row.hack.term = term;
+        Decision::new(Outcome::Taken, row, Some(Reply::LeaveConfirm))
+    }
+
+    fn told(self, hack: Hack, clock: u32) -> Decision
+        ensures { result ≡ report_decision clock hack self }
+    {
+        if !self.live_at(hack.term) {
+            return Decision::new(Outcome::Stale, self, Some(Reply::Eject));
+        }
+        if self.hack.serial < hack.serial && self.hack.lsn <= hack.lsn {
+            let row = Row {
+                heard: clock,
+                hack,
+                ..self
+            };
+            return Decision::new(Outcome::Taken, row, None);
+        }
+        Decision::new(Outcome::Stale, self, None)
+    }
+
+    fn responded(self, term: u32, clock: u32) -> Decision
+        ensures { result ≡ response_decision clock term self }
+    {
+        if self.live_at(term) {
+            Decision::new(Outcome::Taken, self.heard_at(clock), None)
+        } else {
+            Decision::new(Outcome::Stale, self, Some(Reply::Eject))
         }
     }
 }

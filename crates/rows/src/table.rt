@@ -6,11 +6,13 @@ ghost use Rattle.rows.specs.contracts.table.RowTable.{the_row};
 ghost use Rattle.rows.specs.contracts.row.Row.{the_row as one_row};
 ghost use Rattle.rows.specs.Rows.{new_row, dead_row, ticked_row};
 ghost use Rattle.wire.specs.Flags.{word_from, held_words};
-ghost use Rattle.rows.specs.Tables.{rows_of, slot_of, has_live_row, decided, rows_after, any_live, lower_row, lowest_row, higher_row, highest_high, all_hold, word_with};
+ghost use Rattle.rows.specs.Tables.{rows_of, slot_of, has_live_row, decided, rows_after, any_live, lower_row, lowest_row, highest_high, all_hold};
 
 use crate::row::{Decision, FromChild, Parent, Row};
 use std::alloc::{AllocError, Global};
+use std::array;
 
+// By a rule of the project a plain struct, with no invariant of its own; clauses read it as a list by `rows_of`.
 #[derive(Drop)]
 pub struct RowTable {
     rows: Vec<Row>,
@@ -21,10 +23,7 @@ impl RowTable {
     pub fn new(heap: Global, children: &[u16]) -> Result<RowTable, AllocError>
         ensures { IfOk result (λ t. rows_of t ≡ map new_row children.now) }
     {
-        let mut rows = Vec::new(heap);
-        for child in children {
-            rows.push(Row::new(*child))?;
-        }
+        let rows = children.iter().map(|child| Row::new(*child)).collect(heap)?;
         Ok(RowTable { rows })
     }
 
@@ -66,41 +65,32 @@ impl RowTable {
     pub fn slot_of(&self, child: u16) -> Option<usize>
         ensures { result ≡ slot_of child (rows_of self.now) }
     {
-        for (slot, row) in self.rows.iter().enumerate() {
-            if child == row.child {
-                return Some(slot);
-            }
-        }
-        None
+        self.rows.iter().position(|row| row.child == child)
     }
 
     // Whether a child has a live row with this term.
     pub fn has_live(&self, child: u16, term: u32) -> bool
         ensures { result ≡ has_live_row child term (rows_of self.now) }
     {
-        match self.slot_of(child) {
-            Some(slot) => self.rows[slot].live_at(term),
-            None => false,
-        }
+        self.rows
+            .iter()
+            .find(|row| row.child == child)
+            .is_some_and(|row| row.live_at(term))
     }
 
     // Whether any child counts.
     pub fn any_live(&self) -> bool
         ensures { result ≡ any_live (rows_of self.now) }
     {
-        for row in self.rows.iter() {
-            if row.live {
-                return true;
-            }
-        }
-        false
+        self.rows.iter().any(|row| row.live)
     }
 
     // The slot of the first live row with the lowest low, and that low. The floor of a report is one less.
     pub fn lowest(&self) -> Option<(usize, u32)>
         ensures { result ≡ lowest_row (rows_of self.now) }
     {
-        let mut best: Option<(usize, u32)> = None;
+        // By a rule of the project the minimum is gathered in a loop, with the row's index.
+        let mut best = None;
         for (slot, row) in self.rows.iter().enumerate() {
             best = lower(best, slot, row);
         }
@@ -111,14 +101,16 @@ impl RowTable {
     pub fn highest(&self) -> u32
         ensures { result ≡ highest_high (rows_of self.now) }
     {
-        let mut best = 0;
-        for row in self.rows.iter() {
-            best = higher(best, row);
-        }
-        best
+        self.rows
+            .iter()
+            .filter(|row| row.live)
+            .map(|row| row.hack.hsn)
+            .max()
+            .unwrap_or(0)
     }
 
-    // What the packet of a child makes of its row, and of no other; none for a number that is no child's.
+    // What the packet of a child makes of its row, and of no other; none for a number that is no child's. The slot is
+    // found here, so the caller has only the other two parts of a `Parent`.
     pub fn take(
         &mut self,
         child: u16,
@@ -130,9 +122,7 @@ impl RowTable {
         ensures answer { result ≡ decided joined low clock packet (rows_of self.old) (slot_of child (rows_of self.old)) }
         ensures rows { rows_of self.new ≡ rows_after result (rows_of self.old) (slot_of child (rows_of self.old)) }
     {
-        let Some(slot) = self.slot_of(child) else {
-            return None;
-        };
+        let slot = self.slot_of(child)?;
         let row = self.rows[slot];
         let decision = row.decide(Parent { joined, low, slot }, packet, clock);
         *self.row_mut(slot) = decision.row;
@@ -143,39 +133,17 @@ impl RowTable {
     pub fn word(&self, block: u32) -> u32
         ensures { result ≡ word_from (all_hold (rows_of self.now)) block }
     {
-        let mut word = u32::MAX;
-        for row in self.rows.iter() {
-            word = with_row(word, row, block);
-        }
-        word
+        self.rows
+            .iter()
+            .filter(|row| row.live)
+            .fold(u32::MAX, |word, row| word & row.hack.word(block))
     }
 
     // The nine flag words of a report from `lsn` on.
     pub fn words(&self, lsn: u32) -> [u32; 9]
         ensures { result ≡ held_words (all_hold (rows_of self.now)) lsn }
     {
-        let first = lsn / 32;
-        [
-            self.word(first),
-            self.word(first + 1),
-            self.word(first + 2),
-            self.word(first + 3),
-            self.word(first + 4),
-            self.word(first + 5),
-            self.word(first + 6),
-            self.word(first + 7),
-            self.word(first + 8),
-        ]
-    }
-}
-
-fn with_row(word: u32, row: &Row, block: u32) -> u32
-    ensures { result ≡ word_with row.now block word }
-{
-    if row.live {
-        word & row.hack.word(block)
-    } else {
-        word
+        array::from_fn(|i| self.word(lsn / 32 + i as u32))
     }
 }
 
@@ -189,15 +157,5 @@ fn lower(best: Option<(usize, u32)>, slot: usize, row: &Row) -> Option<(usize, u
     match best {
         Some((_, least)) if least <= low => best,
         _ => Some((slot, low)),
-    }
-}
-
-fn higher(best: u32, row: &Row) -> u32
-    ensures { result ≡ higher_row row.now best }
-{
-    if row.live {
-        best.max(row.hack.hsn)
-    } else {
-        best
     }
 }

@@ -45,7 +45,10 @@ fn two_reports(rt: HostRuntime) -> Result<(), Fail> {
     assert!(rt; table.any_live());
     assert_eq!(rt; table.lowest(), Some((1, 38)));
     assert_eq!(rt; table.highest(), 74);
-    assert!(rt; table.words(38) == [0xfd7e_dc7f, 0xff00_0000, 0, 0, 0, 0, 0, 0, 0]);
+    assert_eq!(rt;
+        table.words(38),
+        [0xfd7e_dc7f, 0xff00_0000, 0, 0, 0, 0, 0, 0, 0]
+    );
     Ok(())
 }
 

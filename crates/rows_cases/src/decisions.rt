@@ -12,8 +12,7 @@ const JOINED: Parent = Parent {
 
 const OUTSIDE: Parent = Parent {
     joined: false,
-    low: 50,
-    slot: 3,
+    ..JOINED
 };
 
 const REPORT: Hack = Hack {
@@ -23,6 +22,43 @@ const REPORT: Hack = Hack {
     hsn: 61,
     flags: [0; 9],
 };
+
+// What the cases look at in the row of child 9.
+#[derive(Clone, Copy, PartialEq, Eq, Debug)]
+struct Seen {
+    child: u16,
+    live: bool,
+    term: u32,
+    start: u32,
+    low: u32,
+    high: u32,
+    heard: u32,
+}
+
+// The row that `live` makes.
+const LIVE: Seen = Seen {
+    child: 9,
+    live: true,
+    term: 4,
+    start: 50,
+    low: 50,
+    high: 49,
+    heard: 100,
+};
+
+impl From<Row> for Seen {
+    fn from(row: Row) -> Seen {
+        Seen {
+            child: row.child,
+            live: row.live,
+            term: row.hack.term,
+            start: row.start,
+            low: row.hack.lsn,
+            high: row.hack.hsn,
+            heard: row.heard,
+        }
+    }
+}
 
 // Live at term 4 from number 50 on, heard at 100.
 fn live() -> Row {
@@ -38,208 +74,165 @@ fn dead() -> Row {
         .row
 }
 
-// The kind of reply, and the start in a JoinConfirm, whose slot is checked.
-fn reply_of(decision: Decision) -> (u8, u32) {
-    match decision.reply {
-        None => (0, 0),
-        Some(Reply::JoinAck) => (5, 0),
-        Some(Reply::JoinConfirm { start, slot }) => if slot == 3 { (6, start) } else { (255, 0) },
-        Some(Reply::Eject) => (10, 0),
-        Some(Reply::LeaveConfirm) => (13, 0),
-    }
-}
-
-fn expect(rt: &impl Abort, decision: Decision, outcome: Outcome, reply: (u8, u32)) {
+fn expect(rt: &impl Abort, decision: Decision, outcome: Outcome, reply: Option<Reply>) {
     assert_eq!(rt; decision.outcome, outcome);
-    assert_eq!(rt; reply_of(decision), reply);
-}
-
-// Whether the row is live, its term, start, low, high and when it was heard.
-fn expect_row(rt: &impl Abort, row: Row, live: bool, term: u32, from: (u32, u32, u32), heard: u32) {
-    assert_eq!(rt; row.child, 9);
-    assert_eq!(rt; row.live, live);
-    assert_eq!(rt; row.hack.term, term);
-    assert_eq!(rt; (row.start, row.hack.lsn, row.hack.hsn), from);
-    assert_eq!(rt; row.heard, heard);
+    assert_eq!(rt; decision.reply, reply);
 }
 
 #[test]
 fn asks_in(rt: HostRuntime) {
+    let confirm = Reply::JoinConfirm { start: 50, slot: 3 };
     expect(
         &rt,
         live().decide(OUTSIDE, FromChild::JoinStream { term: 5 }, 300),
         Outcome::Stale,
-        (5, 0),
+        Some(Reply::JoinAck),
     );
     expect(
         &rt,
         live().decide(JOINED, FromChild::JoinStream { term: 3 }, 300),
         Outcome::Stale,
-        (10, 0),
+        Some(Reply::Eject),
     );
     expect(
         &rt,
         dead().decide(JOINED, FromChild::JoinStream { term: 4 }, 300),
         Outcome::Stale,
-        (10, 0),
+        Some(Reply::Eject),
     );
     expect(
         &rt,
         live().decide(JOINED, FromChild::JoinStream { term: 4 }, 300),
         Outcome::Taken,
-        (6, 50),
+        Some(confirm),
     );
     expect(
         &rt,
         dead().decide(JOINED, FromChild::JoinStream { term: 5 }, 300),
         Outcome::Taken,
-        (6, 50),
+        Some(confirm),
     );
 }
 
 #[test]
 fn rows_that_ask_in(rt: HostRuntime) {
-    expect_row(&rt, live(), true, 4, (50, 50, 49), 100);
-    expect_row(
-        &rt,
-        live()
-            .decide(JOINED, FromChild::JoinStream { term: 4 }, 300)
-            .row,
-        true,
-        4,
-        (50, 50, 49),
-        300,
-    );
-    let later = Parent {
-        joined: true,
-        low: 80,
-        slot: 3,
-    };
+    assert_eq!(rt; Seen::from(live()), LIVE);
+    let heard = live()
+        .decide(JOINED, FromChild::JoinStream { term: 4 }, 300)
+        .row;
+    assert_eq!(rt; Seen::from(heard), Seen { heard: 300, ..LIVE });
+    let later = Parent { low: 80, ..JOINED };
     let told = live().decide(JOINED, FromChild::Hack(REPORT), 150).row;
-    expect_row(&rt, told, true, 4, (50, 60, 61), 150);
+    let reported = Seen {
+        low: 60,
+        high: 61,
+        heard: 150,
+        ..LIVE
+    };
+    assert_eq!(rt; Seen::from(told), reported);
     let again = told
         .decide(later, FromChild::JoinStream { term: 5 }, 300)
         .row;
-    expect_row(&rt, again, true, 5, (80, 80, 79), 300);
+    let anew = Seen {
+        term: 5,
+        start: 80,
+        low: 80,
+        high: 79,
+        heard: 300,
+        ..LIVE
+    };
+    assert_eq!(rt; Seen::from(again), anew);
     assert_eq!(rt; again.hack.serial, 0);
 }
 
 #[test]
 fn asks_out(rt: HostRuntime) {
+    let confirm = Some(Reply::LeaveConfirm);
     expect(
         &rt,
         live().decide(JOINED, FromChild::LeaveStream { term: 3 }, 300),
         Outcome::Stale,
-        (13, 0),
+        confirm,
     );
     expect(
         &rt,
         live().decide(OUTSIDE, FromChild::LeaveStream { term: 4 }, 300),
         Outcome::Taken,
-        (13, 0),
+        confirm,
     );
     expect(
         &rt,
         dead().decide(JOINED, FromChild::LeaveStream { term: 4 }, 300),
         Outcome::Taken,
-        (13, 0),
+        confirm,
     );
-    expect_row(
-        &rt,
-        live()
-            .decide(JOINED, FromChild::LeaveStream { term: 9 }, 300)
-            .row,
-        false,
-        9,
-        (50, 50, 49),
-        100,
-    );
+    let left = live()
+        .decide(JOINED, FromChild::LeaveStream { term: 9 }, 300)
+        .row;
+    let gone = Seen {
+        live: false,
+        term: 9,
+        ..LIVE
+    };
+    assert_eq!(rt; Seen::from(left), gone);
 }
 
 #[test]
 fn reports(rt: HostRuntime) {
     let told = live().decide(JOINED, FromChild::Hack(REPORT), 150).row;
+    let next = Hack {
+        serial: 8,
+        ..REPORT
+    };
     expect(
         &rt,
         live().decide(JOINED, FromChild::Hack(REPORT), 150),
         Outcome::Taken,
-        (0, 0),
+        None,
     );
     expect(
         &rt,
         told.decide(JOINED, FromChild::Hack(REPORT), 160),
         Outcome::Stale,
-        (0, 0),
+        None,
     );
+    let back = FromChild::Hack(Hack { lsn: 59, ..next });
+    expect(&rt, told.decide(JOINED, back, 160), Outcome::Stale, None);
     expect(
         &rt,
-        told.decide(
-            JOINED,
-            FromChild::Hack(Hack {
-                serial: 8,
-                lsn: 59,
-                ..REPORT
-            }),
-            160,
-        ),
-        Outcome::Stale,
-        (0, 0),
-    );
-    expect(
-        &rt,
-        told.decide(
-            JOINED,
-            FromChild::Hack(Hack {
-                serial: 8,
-                ..REPORT
-            }),
-            160,
-        ),
+        told.decide(JOINED, FromChild::Hack(next), 160),
         Outcome::Taken,
-        (0, 0),
+        None,
     );
     expect(
         &rt,
         dead().decide(JOINED, FromChild::Hack(REPORT), 160),
         Outcome::Stale,
-        (10, 0),
+        Some(Reply::Eject),
     );
     expect(
         &rt,
         live().decide(JOINED, FromChild::Hack(Hack { term: 5, ..REPORT }), 160),
         Outcome::Stale,
-        (10, 0),
+        Some(Reply::Eject),
     );
 }
 
 #[test]
 fn responses(rt: HostRuntime) {
-    expect(
-        &rt,
-        live().decide(JOINED, FromChild::HeartbeatResponse { term: 4 }, 160),
-        Outcome::Taken,
-        (0, 0),
-    );
-    expect_row(
-        &rt,
-        live()
-            .decide(JOINED, FromChild::HeartbeatResponse { term: 4 }, 160)
-            .row,
-        true,
-        4,
-        (50, 50, 49),
-        160,
-    );
+    let answered = live().decide(JOINED, FromChild::HeartbeatResponse { term: 4 }, 160);
+    expect(&rt, answered, Outcome::Taken, None);
+    assert_eq!(rt; Seen::from(answered.row), Seen { heard: 160, ..LIVE });
     expect(
         &rt,
         live().decide(JOINED, FromChild::HeartbeatResponse { term: 3 }, 160),
         Outcome::Stale,
-        (10, 0),
+        Some(Reply::Eject),
     );
     expect(
         &rt,
         dead().decide(JOINED, FromChild::HeartbeatResponse { term: 4 }, 160),
         Outcome::Stale,
-        (10, 0),
+        Some(Reply::Eject),
     );
 }

@@ -19,7 +19,7 @@ pub record Passed (s : Sender Meaning Bool) (xs out : List ℕ) (put : Result (U
 
 -- the sender with the next number, and its queue as it then is
 abbrev pub with_next : Sender Meaning Bool → Meaning → Sender Meaning Bool
-with_next s queue = record { address = s.address; top = s.top; highest = s.highest + 1; released = s.released; serial = s.serial; wanted = s.wanted; queue = queue; phase = s.phase }
+with_next s queue = record s { highest = s.highest + 1; queue = queue }
 
 pub good_size : (xs : List ℕ) → false ≡ eqb (length xs) 0 → length xs ≤ 512 → good_length xs ≡ true
 good_size xs some most = let one : length xs ≢ 0 = eqb-false (length xs) 0 (sym some) in and_from _ _ (lt-ltb 0 (length xs) (omega arith)) (lt-ltb (length xs) 513 (omega arith))

@@ -18,7 +18,7 @@ use Rattle.wire.specs.declared.packet.Hack.{Hack}
 use Rattle.wire.specs.declared.packet.Message.{Message}
 use Rattle.wire.proofs.Forth.{taken}
 use Rattle.address.specs.Addresses.{address_answer, reply_length, reply_buffer}
-use Rattle.address.specs.Deliveries.{Acceptance, known, past_address, admission, accepted, delivered_in, delivered, deliver_answer, reply_in}
+use Rattle.address.specs.Deliveries.{Acceptance, unchanged, known, past_address, admission, accepted, delivered_in, delivered, deliver_answer, reply_in}
 use Rattle.sender.specs.declared.sender.Sender.{Sender}
 use Rattle.sender.specs.WantedNumbers.{wants}
 use Rattle.sender.specs.Senders.{hack_in, report_from, is_fresh, reported, accepts_report, sender_answer, WantsTheMissing, SenderSound}
@@ -38,8 +38,12 @@ module _ (s : Sender Meaning Bool) (bytes : List ℕ) (p : Message (List ℕ)) (
   let_in : admission s.address (report_from s.top) p ≡ Ok h
   let_in = ap (λ r. past_address r (report_from s.top p)) (sym came.address) ∙ ap known (sym came.report)
 
+  -- what comes of it, by whether it is fresh
+  abbrev either : Bool → Acceptance (Sender Meaning Bool)
+  either b = cond b (record { node = reported s h; outcome = Taken; reply = None }) (unchanged s)
+
   -- there is never a reply
-  quiet : (b : Bool) → (λ (x : Acceptance (Sender Meaning Bool)). x.reply) (cond b (record { node = reported s h; outcome = Taken; reply = None }) (record { node = s; outcome = Stale; reply = None })) ≡ None
+  quiet : (b : Bool) → (either b).reply ≡ None
   quiet true = refl
   quiet false = refl
 
@@ -111,7 +115,7 @@ module _ (s : Sender Meaning Bool) (bytes : List ℕ) (p : Message (List ℕ)) (
   bound = let f = fields in grind (arith, nat_tests)
 
   -- what is wanted once it was taken
-  fresh_if : (b : Bool) → (λ (x : Acceptance (Sender Meaning Bool)). x.outcome) (cond b (record { node = reported s h; outcome = Taken; reply = None }) (record { node = s; outcome = Stale; reply = None })) ≡ Taken → b ≡ true
+  fresh_if : (b : Bool) → (either b).outcome ≡ Taken → b ≡ true
   fresh_if true e = refl
   fresh_if false e = grind arith
 
@@ -122,7 +126,7 @@ module _ (s : Sender Meaning Bool) (bytes : List ℕ) (p : Message (List ℕ)) (
       let hack : x ≡ h = let e = sym carries ∙ ap (λ m. m.body) same ∙ hack_body in cc in
       let took : o ≡ Taken = ap outcome_in done in
       let fresh = fresh_if (is_fresh s h) (sym told ∙ took) in
-      let gone : after ≡ reported s h = is ∙ ap (λ b. (λ (x : Acceptance (Sender Meaning Bool)). x.node) (cond b (record { node = reported s h; outcome = Taken; reply = None }) (record { node = s; outcome = Stale; reply = None }))) fresh in
+      let gone : after ≡ reported s h = is ∙ ap (λ b. (either b).node) fresh in
       ap (λ m. wants m.wanted n) gone ∙ missing_wants h n bound ∙ ap (λ m. is_missing m n) (sym hack)
 
   -- a sound sender stays so
@@ -146,6 +150,6 @@ module _ (s : Sender Meaning Bool) (bytes : List ℕ) (p : Message (List ℕ)) (
   pub report_keeps : (after : Sender Meaning Bool) → after ≡ (accepts_report s 0 h).node → SenderSound s → SenderSound after
   report_keeps after is sound = subst SenderSound (sym is) (go (is_fresh s h) (λ f. reported_sound f sound))
     where
-      go : (b : Bool) → (b ≡ true → SenderSound (reported s h)) → SenderSound ((λ (x : Acceptance (Sender Meaning Bool)). x.node) (cond b (record { node = reported s h; outcome = Taken; reply = None }) (record { node = s; outcome = Stale; reply = None })))
+      go : (b : Bool) → (b ≡ true → SenderSound (reported s h)) → SenderSound ((either b).node)
       go true f = f refl
       go false f = sound

@@ -1,19 +1,17 @@
 -- Which numbers are wanted: none at first, and then what a HACK says is missing. Assumes nothing.
-use Rattle.std.proofs.Common.{◌≡◌, ℕ, ◌+◌, ◌-◌, ◌*◌, ◌/◌, ◌%◌, ◌<◌, ◌≤◌, Bool, true, false, cond, not, ◌&&◌, eqb, leb, length, get_or, replicate, sym, refl, ap, ◌∙◌, inl, inr, arith}
+use Rattle.std.proofs.Common.{◌≡◌, ℕ, ◌+◌, ◌-◌, ◌*◌, ◌/◌, ◌%◌, ◌<◌, ◌≤◌, Bool, true, false, cond, ◌&&◌, eqb, leb, length, get_or, replicate, sym, refl, ap, ◌∙◌, inl, inr, arith}
 use lib.ListN.{get_or-replicate}
 use Rattle.std.proofs.lemmas.List.FromFn.{get_or-map-range_with_len, length-map-range_with_len}
 use Rattle.std.proofs.lemmas.List.{get_or_past}
-use Rattle.std.proofs.lemmas.Bool.{cases_lt, le-leb, lt-leb}
-use Rattle.wire.specs.Flags.{flag_at, held_by, is_missing, word_from}
+use Rattle.std.proofs.Math.Bool.{and-false}
+use Rattle.std.proofs.lemmas.Bool.Decides.{nat_tests}
+use Rattle.std.proofs.lemmas.Bool.{cases_lt}
+use Rattle.wire.specs.Flags.{flag_at, is_missing, word_from}
 use Rattle.wire.specs.declared.packet.Hack.{Hack}
 use Rattle.wire.proofs.Words.{flag_none}
 use Rattle.wire.proofs.Packed.{word_from_flag}
 use Rattle.sender.specs.declared.wanted.Wanted.{Wanted}
 use Rattle.sender.specs.WantedNumbers.{wants, none_wanted, missing_of}
-
-false_right : (b : Bool) → (b && false) ≡ false
-false_right true = refl
-false_right false = refl
 
 as_test : (b : Bool) → eqb (cond b 1 0) 1 ≡ b
 as_test true = refl
@@ -21,15 +19,15 @@ as_test false = refl
 
 -- a number before the first word, or whose word is 0, is not wanted
 pub not_before : (w : Wanted) (n : ℕ) → n / 32 < w.first → wants w n ≡ false
-not_before w n l = ap (λ b. b && eqb (flag_at (get_or w.words (n / 32 - w.first) 0) (n % 32)) 1) (lt-leb w.first (n / 32) l)
+not_before w n l = grind (arith, nat_tests)
 
 pub not_in_zero : (w : Wanted) (n : ℕ) → get_or w.words (n / 32 - w.first) 0 ≡ 0 → wants w n ≡ false
 not_in_zero w n z =
-    ap (λ x. leb w.first (n / 32) && eqb (flag_at x (n % 32)) 1) z ∙ ap (λ x. leb w.first (n / 32) && eqb x 1) (flag_none (n % 32)) ∙ false_right (leb w.first (n / 32))
+    ap (λ x. leb w.first (n / 32) && eqb (flag_at x (n % 32)) 1) z ∙ ap (λ x. leb w.first (n / 32) && eqb x 1) (flag_none (n % 32)) ∙ and-false (leb w.first (n / 32))
 
 -- from the first word on the flag tells
 pub by_flag : (w : Wanted) (n : ℕ) → w.first ≤ n / 32 → wants w n ≡ eqb (flag_at (get_or w.words (n / 32 - w.first) 0) (n % 32)) 1
-by_flag w n l = ap (λ b. b && eqb (flag_at (get_or w.words (n / 32 - w.first) 0) (n % 32)) 1) (le-leb w.first (n / 32) l)
+by_flag w n l = grind (arith, nat_tests)
 
 pub none_wants : (n : ℕ) → wants none_wanted n ≡ false
 none_wants n =
@@ -40,10 +38,10 @@ none_wants n =
 
 -- outside LSN to HSN nothing is missing
 missing_below : (h : Hack) (n : ℕ) → n < h.lsn → is_missing h n ≡ false
-missing_below h n l = ap (λ b. b && (leb n h.hsn && not (held_by h n))) (lt-leb h.lsn n l)
+missing_below h n l = grind (arith, nat_tests)
 
 missing_above : (h : Hack) (n : ℕ) → h.hsn < n → is_missing h n ≡ false
-missing_above h n l = ap (λ b. leb h.lsn n && (b && not (held_by h n))) (lt-leb n h.hsn l) ∙ false_right (leb h.lsn n)
+missing_above h n l = grind (arith, nat_tests)
 
 -- nine words have room for all from LSN to HSN
 pub missing_wants : (h : Hack) (n : ℕ) → h.hsn ≤ h.lsn + 255 → wants (missing_of h) n ≡ is_missing h n
@@ -70,15 +68,7 @@ missing_wants h n bound =
 
 -- what is missing lies from LSN to HSN
 pub missing_from : (h : Hack) (n : ℕ) → is_missing h n ≡ true → h.lsn ≤ n
-missing_from h n e =
-    elim (cases_lt n h.lsn) [
-      | inl below ↦ let f = missing_below h n below in let z : true ≡ false = cc in absurd (grind arith)
-      | inr from ↦ from
-    ]
+missing_from h n e = grind (arith, nat_tests)
 
 pub missing_through : (h : Hack) (n : ℕ) → is_missing h n ≡ true → n ≤ h.hsn
-missing_through h n e =
-    elim (cases_lt h.hsn n) [
-      | inl above ↦ let f = missing_above h n above in let z : true ≡ false = cc in absurd (grind arith)
-      | inr through ↦ through
-    ]
+missing_through h n e = grind (arith, nat_tests)

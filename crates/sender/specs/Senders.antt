@@ -1,5 +1,6 @@
 -- What each call of a sender answers, and what the sender and the buffer then hold. Assumes nothing.
 use Rattle.std.specs.Prelude.{◌≡◌, ℕ, ◌+◌, ◌-◌, ◌<◌, ◌≤◌, Bool, true, false, cond, not, ◌&&◌, List, Some, None, Ok, Err, Option, Result, ◌==◌, nat_le, nat_lt}
+use Rattle.std.specs.declared.convert.Infallible.{Infallible}
 use Rattle.answer.specs.declared.Refusal.{Refusal}
 use Rattle.answer.specs.declared.Refusal.TheVariants.{OutOfRange, BadPayload, WindowFull, Exhausted, Full}
 use Rattle.answer.specs.declared.Outcome.TheVariants.{Taken}
@@ -22,6 +23,13 @@ use Rattle.sender.specs.WantedNumbers.{wants, none_wanted, missing_of}
 -- a sender by the meaning of its queue, and by whether its stream has ended
 abbrev pub sender_seen : {Q P : Type 0} → (Q → Meaning) → (P → Bool) → Sender Q P → Sender Meaning Bool
 sender_seen meaning ended s = record { address = s.address; top = s.top; highest = s.highest; released = s.released; serial = s.serial; wanted = s.wanted; queue = meaning s.queue; phase = ended s.phase }
+
+-- a sender whose stream is open, and one whose stream has ended
+abbrev pub open_seen : {Q P : Type 0} → (Q → Meaning) → Sender Q P → Sender Meaning Bool
+open_seen meaning s = sender_seen meaning (λ _. false) s
+
+abbrev pub ended_seen : {Q P : Type 0} → (Q → Meaning) → Sender Q P → Sender Meaning Bool
+ended_seen meaning s = sender_seen meaning (λ _. true) s
 
 -- what a sender can be made with: the StreamID is at least 32,768, and its own number and the top's are two, none of them 0
 abbrev pub good_making : Address → ℕ → Bool
@@ -63,18 +71,21 @@ offer_answer s xs out =
     (Err BadPayload)
 
 abbrev pub offered : Sender Meaning Bool → List ℕ → Sender Meaning Bool
-offered s xs = record { address = s.address; top = s.top; highest = s.highest + 1; released = s.released; serial = s.serial; wanted = s.wanted; queue = put_after true s.queue (s.highest + 1) xs; phase = s.phase }
+offered s xs = record s { highest = s.highest + 1; queue = put_after true s.queue (s.highest + 1) xs }
 
 abbrev pub offer_after : Bool → Sender Meaning Bool → List ℕ → Sender Meaning Bool
 offer_after done s xs = cond done (offered s xs) s
 
 -- end: all stays, and the stream has ended
 abbrev pub ended_after : Sender Meaning Bool → Sender Meaning Bool
-ended_after s = record { address = s.address; top = s.top; highest = s.highest; released = s.released; serial = s.serial; wanted = s.wanted; queue = s.queue; phase = true }
+ended_after s = record s { phase = true }
 
 -- announce: NullData, or EOS once the stream has ended, with the highest number, to all
+abbrev pub announcement : Bool → ℕ → Body Infallible
+announcement ended highest = cond ended (body.Eos highest) (body.NullData highest)
+
 abbrev pub announce_packet : Sender Meaning Bool → Message (List ℕ)
-announce_packet s = packet_of s.address 0 (cond s.phase (body.Eos s.highest) (body.NullData s.highest))
+announce_packet s = packet_of s.address 0 (announcement s.phase s.highest)
 
 -- deliver: a HACK of the top is all that a sender takes
 abbrev pub hack_in : Body (List ℕ) → Option Hack
@@ -101,7 +112,7 @@ is_fresh s h = h.term == 1 && (nat_lt s.serial h.serial && (nat_le s.released (h
 
 -- a fresh one releases through its stable, and its missing numbers are wanted, and no others
 abbrev pub reported : Sender Meaning Bool → Hack → Sender Meaning Bool
-reported s h = record { address = s.address; top = s.top; highest = s.highest; released = h.lsn - 1; serial = h.serial; wanted = missing_of h; queue = forget_after s.queue (h.lsn - 1); phase = s.phase }
+reported s h = record s { released = h.lsn - 1; serial = h.serial; wanted = missing_of h; queue = forget_after s.queue (h.lsn - 1) }
 
 abbrev pub accepts_report : Sender Meaning Bool → ℕ → Hack → Acceptance (Sender Meaning Bool)
 accepts_report s writer h = cond (is_fresh s h) (record { node = reported s h; outcome = Taken; reply = None }) (unchanged s)

@@ -15,11 +15,8 @@ use wire::{Body, Hack, Packet, read};
 fn report_from(top: u16, packet: &Packet<'_>) -> Option<Hack>
     ensures { result ≡ report_from top (plain_packet packet.now) }
 {
-    if packet.writer != top {
-        return None;
-    }
     match packet.body {
-        Body::Hack(hack) => Some(hack),
+        Body::Hack(hack) if packet.writer == top => Some(hack),
         _ => None,
     }
 }
@@ -62,9 +59,7 @@ impl<Q: Store, P: Phase> Sender<Q, P> {
     {
         let packet = read(bytes)?;
         self.address.check(&packet)?;
-        let Some(hack) = report_from(self.top, &packet) else {
-            return Err(Refusal::NotTaken);
-        };
+        let hack = report_from(self.top, &packet).ok_or(Refusal::NotTaken)?;
         if reply.len() < REPLY_ROOM {
             return Err(Refusal::ShortOutput);
         }

@@ -1,6 +1,6 @@
 // A sender: its state, its making and its end.
-ghost use Rattle.std.specs.Prelude.{◌≡◌, true, false, Ok};
-ghost use Rattle.sender.specs.Senders.{sender_seen, check_answer, new_sender, ended_after, SenderSound};
+ghost use Rattle.std.specs.Prelude.{◌≡◌, Ok};
+ghost use Rattle.sender.specs.Senders.{open_seen, ended_seen, check_answer, new_sender, ended_after, SenderSound};
 
 use crate::phase::{AtEnd, Phase, StillOpen};
 use crate::wanted::Wanted;
@@ -8,7 +8,8 @@ use address::Address;
 use store::Store;
 
 // `highest` is the last number offered; every number through `released` has been released; `serial` is that of the
-// last report taken.
+// last report taken. There is no model: a clause may ask for the queue itself, and the meaning of the queue, by which
+// `sender_seen` reads the rest, comes only with the bound `Store`.
 #[derive(Drop)]
 pub struct Sender<Q, P> {
     pub(crate) address: Address,
@@ -28,9 +29,9 @@ pub type Ended<Q> = Sender<Q, AtEnd>;
 impl<Q: Store> Sender<Q, StillOpen> {
     // A sender that has offered nothing. It refuses nothing, since `check` comes first.
     pub fn new(address: Address, top: u16, queue: Q) -> Open<Q>
-        ensures is { sender_seen Q.Store.meaning (λ _. false) result ≡ new_sender address top (Q.Store.meaning queue) }
+        ensures is { open_seen Q.Store.meaning result ≡ new_sender address top (Q.Store.meaning queue) }
         ensures same { result.queue ≡ queue }
-        ensures sound { check_answer address top ≡ Ok tt → SenderSound (sender_seen Q.Store.meaning (λ _. false) result) }
+        ensures sound { check_answer address top ≡ Ok tt → SenderSound (open_seen Q.Store.meaning result) }
     {
         Sender {
             address,
@@ -43,12 +44,14 @@ impl<Q: Store> Sender<Q, StillOpen> {
             phase: StillOpen,
         }
     }
+
     // Ends the stream. An ended sender has neither `offer` nor `end`.
     pub fn end(self) -> Ended<Q>
-        ensures is { sender_seen Q.Store.meaning (λ _. true) result ≡ ended_after (sender_seen Q.Store.meaning (λ _. false) self) }
+        ensures is { ended_seen Q.Store.meaning result ≡ ended_after (open_seen Q.Store.meaning self) }
         ensures same { result.queue ≡ self.queue }
-        ensures keeps { SenderSound (sender_seen Q.Store.meaning (λ _. false) self) → SenderSound (sender_seen Q.Store.meaning (λ _. true) result) }
+        ensures keeps { SenderSound (open_seen Q.Store.meaning self) → SenderSound (ended_seen Q.Store.meaning result) }
     {
+        // Field by field, since `..self` would have to keep the type of the phase.
         Sender {
             address: self.address,
             top: self.top,
@@ -97,7 +100,6 @@ impl<Q: Store, P: Drop> Sender<Q, P> {
     pub fn into_queue(self) -> Q
         ensures { result ≡ self.queue }
     {
-        let Sender { queue, .. } = self;
-        queue
+        self.queue
     }
 }

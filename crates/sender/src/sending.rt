@@ -1,9 +1,9 @@
 // What a sender writes of its own accord: payloads under rising numbers, and how far they go.
-ghost use Rattle.std.specs.Prelude.{◌≡◌, false, is_ok, Err, ◌≢◌};
+ghost use Rattle.std.specs.Prelude.{◌≡◌, is_ok, Err, ◌≢◌};
 ghost use Rattle.answer.specs.declared.Refusal.TheVariants.{OutOfRange};
 ghost use Rattle.wire.specs.Encoding.{encode, buffer_after};
 ghost use Rattle.address.specs.Addresses.{written};
-ghost use Rattle.sender.specs.Senders.{sender_seen, offer_packet, offer_answer, offer_after, announce_packet, SenderSound};
+ghost use Rattle.sender.specs.Senders.{sender_seen, open_seen, offer_packet, offer_answer, offer_after, announce_packet, SenderSound};
 
 use crate::phase::{Phase, StillOpen};
 use crate::sender::Sender;
@@ -21,11 +21,11 @@ const WINDOW: u32 = 256;
 impl<Q: Store> Sender<Q, StillOpen> {
     // Queues a payload under the next number and writes it to all.
     pub fn offer(&mut self, payload: &[u8], out: &mut [u8]) -> Result<usize, Refusal>
-        ensures answer { result ≡ offer_answer (sender_seen Q.Store.meaning (λ _. false) self.old) payload.now out.old }
-        ensures after { sender_seen Q.Store.meaning (λ _. false) self.new ≡ offer_after (is_ok result) (sender_seen Q.Store.meaning (λ _. false) self.old) payload.now }
-        ensures buffer { out.new ≡ buffer_after result (encode (offer_packet (sender_seen Q.Store.meaning (λ _. false) self.old) payload.now)) out.old }
-        ensures keeps { SenderSound (sender_seen Q.Store.meaning (λ _. false) self.old) → SenderSound (sender_seen Q.Store.meaning (λ _. false) self.new) }
-        ensures in_range { SenderSound (sender_seen Q.Store.meaning (λ _. false) self.old) → result ≢ Err OutOfRange }
+        ensures answer { result ≡ offer_answer (open_seen Q.Store.meaning self.old) payload.now out.old }
+        ensures after { open_seen Q.Store.meaning self.new ≡ offer_after (is_ok result) (open_seen Q.Store.meaning self.old) payload.now }
+        ensures buffer { out.new ≡ buffer_after result (encode (offer_packet (open_seen Q.Store.meaning self.old) payload.now)) out.old }
+        ensures keeps { SenderSound (open_seen Q.Store.meaning self.old) → SenderSound (open_seen Q.Store.meaning self.new) }
+        ensures in_range { SenderSound (open_seen Q.Store.meaning self.old) → result ≢ Err OutOfRange }
     {
         if payload.is_empty() || payload.len() > LONGEST {
             return Err(Refusal::BadPayload);
@@ -46,9 +46,7 @@ impl<Q: Store> Sender<Q, StillOpen> {
         };
         // The room comes before the queue: an offer that is refused changes nothing.
         check_write(&packet, out)?;
-        if self.queue.put(number, payload).is_err() {
-            return Err(Refusal::Full);
-        }
+        self.queue.put(number, payload).map_err(|_| Refusal::Full)?;
         self.highest = number;
         write(&packet, out)
     }
@@ -61,12 +59,7 @@ impl<Q: Store, P: Phase> Sender<Q, P> {
         ensures buffer { out.new ≡ buffer_after result (encode (announce_packet (sender_seen Q.Store.meaning P.Phase.ended self.now))) out.old }
         ensures in_range { SenderSound (sender_seen Q.Store.meaning P.Phase.ended self.now) → result ≢ Err OutOfRange }
     {
-        let highest = self.highest;
-        let body = if self.phase.is_ended() {
-            Body::Eos { highest }
-        } else {
-            Body::NullData { highest }
-        };
-        self.address.write_to(0, body, out)
+        self.address
+            .write_to(0, self.phase.announcement(self.highest), out)
     }
 }

@@ -3,6 +3,7 @@ ghost use Rattle.std.specs.Prelude.{◌≡◌, ℕ, ◌<◌, false, ◌==◌, sl
 ghost use Rattle.wire.specs.Flags.{flag_at};
 ghost use Rattle.sender.specs.WantedNumbers.{wants, none_wanted, missing_of};
 
+use std::array;
 use wire::Hack;
 
 // Word i has the numbers from 32 × (`first` + i) on, the first at the highest bit; 1 where the number is wanted.
@@ -21,6 +22,7 @@ fn is_set(word: u32, position: u32) -> bool
 }
 
 impl Wanted {
+    #[tactic(auto, using(crate::proofs::Wants::none_wants))]
     pub(crate) fn none() -> Wanted
         ensures is { result ≡ none_wanted }
         ensures nothing { (n : ℕ) → wants result n ≡ false }
@@ -32,22 +34,22 @@ impl Wanted {
     }
 
     // What a report says is missing.
+    #[tactic(auto, unfolding(crate::specs::WantedNumbers::missing_of))]
     pub(crate) fn missing_of(hack: &Hack) -> Wanted
         ensures { result ≡ missing_of hack.now }
     {
         let first = hack.lsn / 32;
-        let mut words = [0u32; 9];
-        for i in 0..9usize {
-            words[i] = hack.missing_word(first + i as u32);
+        Wanted {
+            first,
+            words: array::from_fn(|i| hack.missing_word(first + i as u32)),
         }
-        Wanted { first, words }
     }
 
     // Word `i`, and 0 past the last.
     fn word(self, i: u32) -> u32
         ensures { result ≡ slice_index self.words i }
     {
-        if i < 9 { self.words[i as usize] } else { 0 }
+        self.words.get(i as usize).copied().unwrap_or(0)
     }
 
     // Whether `number` is to be sent again.

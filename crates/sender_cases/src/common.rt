@@ -31,9 +31,7 @@ pub(crate) fn offer<Q: Store>(
     let mut out = [9u8; 40];
     let answer = sender.offer(payload, &mut out[0..room.min(40)]);
     let front = answer.unwrap_or(0);
-    for (i, byte) in out.iter().enumerate() {
-        assert!(rt; i < front || *byte == 9);
-    }
+    assert!(rt; out.iter().skip(front).all(|byte| *byte == 9));
     answer
 }
 
@@ -54,17 +52,15 @@ pub(crate) fn report(serial: u32, lsn: u32, hsn: u32, first: u32) -> Hack {
     }
 }
 
-// What deliver answers, as a number: that of the refusal, or 100 for stale and 103 for taken.
-pub(crate) fn told(answer: Result<Delivered, Refusal>) -> u8 {
-    match answer {
-        Err(refusal) => refusal.number(),
-        Ok(delivered) => match delivered.outcome {
-            Outcome::Stale => 100,
-            Outcome::Due => 101,
-            Outcome::Full => 102,
-            Outcome::Taken => 103,
-        },
-    }
+// What became of a packet, or why it was refused.
+pub(crate) type Answer = Result<Outcome, Refusal>;
+
+pub(crate) const STALE: Answer = Ok(Outcome::Stale);
+
+pub(crate) const TAKEN: Answer = Ok(Outcome::Taken);
+
+pub(crate) fn told(answer: Result<Delivered, Refusal>) -> Answer {
+    answer.map(|delivered| delivered.outcome)
 }
 
 // Brings a packet to the sender. Its reply buffer stays as it was.
@@ -74,7 +70,7 @@ pub(crate) fn bring<Q: Store, P: Phase>(
     writer: u16,
     addressee: u16,
     body: Body<Infallible>,
-) -> Result<u8, Fail> {
+) -> Result<Answer, Fail> {
     let mut bytes = [0u8; 74];
     let packet = Packet::bare(SENDER.tree, SENDER.stream, writer, addressee, body);
     let len = write(&packet, &mut bytes)?;

@@ -1,5 +1,5 @@
 // The sender's part of the protocol's worked exchange, byte by byte: sender 100 (0064), top 200 (00C8).
-use crate::common::told;
+use crate::common::{TAKEN, told};
 use address::Address;
 use memory::journal::Journal;
 use sender::{Open, Sender};
@@ -47,17 +47,17 @@ fn as_in_the_protocol(rt: HostRuntime) -> Result<(), Fail> {
     let mut sender = Sender::new(ADDRESS, 200, Journal::new(vec![in rt.alloc(); 0u8; 5180]?));
     offer_two(&rt, &mut sender);
     let mut reply = [0u8; 26];
-    assert_eq!(rt; told(sender.deliver(&FIRST_REPORT, &mut reply)), 103);
+    assert_eq!(rt; told(sender.deliver(&FIRST_REPORT, &mut reply)), TAKEN);
     assert_eq!(rt; sender.released(), 0);
-    assert_eq!(rt; sender.wanted().wants(1), true);
-    assert_eq!(rt; sender.wanted().wants(2), false);
-    assert_eq!(rt; told(sender.deliver(&SECOND_REPORT, &mut reply)), 103);
+    assert!(rt; sender.wanted().wants(1));
+    assert!(rt; !sender.wanted().wants(2));
+    assert_eq!(rt; told(sender.deliver(&SECOND_REPORT, &mut reply)), TAKEN);
     assert_eq!(rt; sender.released(), 2);
-    assert_eq!(rt; sender.wanted().wants(1), false);
+    assert!(rt; !sender.wanted().wants(1));
     let sender = sender.end();
     let mut end = [0u8; 20];
     assert_eq!(rt; sender.announce(&mut end), Ok(20));
     assert_eq!(rt; end, LAST_WORD);
-    assert_eq!(rt; sender.into_queue().has(2), false);
+    assert!(rt; !sender.into_queue().has(2));
     Ok(())
 }

@@ -1,5 +1,5 @@
 // Offers and announcements.
-use crate::common::{SENDER, TOP, bring, offer, offer_some, open, report};
+use crate::common::{SENDER, TAKEN, TOP, bring, offer, offer_some, open, report};
 use address::Address;
 use answer::Refusal;
 use memory::journal::Journal;
@@ -43,7 +43,7 @@ fn fills_the_window<Q: MadeOver + Drop>(
     );
     assert_eq!(rt; sender.highest(), 256, "{kind}");
     let held = Body::Hack(report(1, 2, 1, 0));
-    assert_eq!(rt; bring(rt, &mut sender, TOP, 100, held)?, 103, "{kind}");
+    assert_eq!(rt; bring(rt, &mut sender, TOP, 100, held)?, TAKEN, "{kind}");
     assert_eq!(rt; sender.released(), 1, "{kind}");
     assert_eq!(rt; offer(rt, &mut sender, &[7], 23), Ok(23), "{kind}");
     assert_eq!(rt;
@@ -61,7 +61,7 @@ fn the_window(rt: HostRuntime) -> Result<(), Fail> {
     fills_the_window::<SlotStore>(&rt, "slot store", rt.alloc())
 }
 
-// A queue with room for one: 20, 12 and 4, each before the next.
+// A queue with room for one: a bad payload, a short buffer and a full queue, each before the next.
 fn refuses_in_order<Q: MadeOver + Drop>(
     rt: &impl Abort,
     kind: &str,
@@ -97,8 +97,8 @@ fn refuses_in_order<Q: MadeOver + Drop>(
     );
     assert_eq!(rt; sender.highest(), 1, "{kind}");
     let mut queue = sender.into_queue();
-    assert_eq!(rt; queue.has(1), true, "{kind}");
-    assert_eq!(rt; queue.has(2), false, "{kind}");
+    assert!(rt; queue.has(1), "{kind}");
+    assert!(rt; !queue.has(2), "{kind}");
     Ok(())
 }
 
@@ -108,7 +108,7 @@ fn the_earlier_refusal_wins(rt: HostRuntime) -> Result<(), Fail> {
     refuses_in_order::<SlotStore>(&rt, "slot store", rt.alloc())
 }
 
-// 20 comes before 21, and 21 before 12.
+// A bad payload comes before a full window, and that before a short buffer.
 #[test]
 fn a_full_window(rt: HostRuntime) -> Result<(), Fail> {
     let mut sender = open::<Journal>(rt.alloc(), 133126)?;
@@ -136,7 +136,7 @@ fn announces<Q: MadeOver + Drop>(rt: &impl Abort, kind: &str, heap: Global) -> R
     let sender = sender.end();
     assert_eq!(rt; sender.announce(&mut out), Ok(20), "{kind}");
     assert_eq!(rt; [out[1], out[19]], [11u8, 2], "{kind}");
-    assert_eq!(rt; sender.into_queue().has(2), true, "{kind}");
+    assert!(rt; sender.into_queue().has(2), "{kind}");
     Ok(())
 }
 

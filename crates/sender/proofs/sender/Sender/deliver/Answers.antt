@@ -9,9 +9,9 @@ returns-then-reply-lt-REPLY_ROOM g c =
     let s = sender_seen g.Q.Store.meaning g.P.Phase.ended c.args.self.now in
     let bytes = c.args.bytes.now in
     let p = plain_packet c.in_ok-packet.packet in
-    let came : Came s bytes p c.in-Some.hack = record { read = c.in_ok-packet.ensures.is; address = c.in_ok-check.ensures; report = c.in-Some.ensures } in
+    let came : Came s bytes p c.in_ok-hack.hack = record { read = c.in_ok-packet.ensures.is; address = c.in_ok-check.ensures; report = search rules } in
     record {
-      answer = short_answer s bytes p c.in-Some.hack came c.args.reply.now c.if-reply-lt-REPLY_ROOM.true;
+      answer = short_answer s bytes p c.in_ok-hack.hack came c.args.reply.now c.if-reply-lt-REPLY_ROOM.true;
       after = refl;
       buffer = refl;
       wants = λ q h reads carries done n. absurd (search rules);
@@ -24,8 +24,8 @@ returns g c =
     let bytes = c.args.bytes.now in
     let out = c.args.reply.now in
     let p = plain_packet c.in_ok-packet.packet in
-    let h = c.in-Some.hack in
-    let came : Came s bytes p h = record { read = c.in_ok-packet.ensures.is; address = c.in_ok-check.ensures; report = c.in-Some.ensures } in
+    let h = c.in_ok-hack.hack in
+    let came : Came s bytes p h = record { read = c.in_ok-packet.ensures.is; address = c.in_ok-check.ensures; report = search rules } in
     let after = sender_seen g.Q.Store.meaning g.P.Phase.ended c.accept.new.self in
     let is = c.accept.ensures.after in
     let outcome = c.accept.ensures.answer in

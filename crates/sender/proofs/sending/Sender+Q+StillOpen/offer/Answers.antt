@@ -17,7 +17,7 @@ returns g c =
       last = c.if-self-ge-LAST.false;
       room = c.in_ok-check_write.ensures;
       queue = c.put.ensures.answer;
-      done = c.if-is_err.ensures.negation;
+      done = search rules;
     } in
     let written : c.write.result ≡ Ok size = offer_written s xs out put size passed c.write.result c.write.ensures.answer in
     let queue = g.Q.Store.meaning c.put.new.self in
