@@ -1,38 +1,39 @@
--- What deliver answers and leaves, once its packet was read and let in. Assumes nothing.
-use Rattle.std.proofs.Common.{◌≡◌, ℕ, ◌<◌, ◌≤◌, true, ltb, List, length, Ok, Err, Option, Result, sym, ap, ◌∙◌}
-use Rattle.std.specs.declared.convert.Infallible.{Infallible}
-use Rattle.std.proofs.lemmas.Bool.{lt-ltb, le-ltb, cond-true, cond-false}
-use Rattle.answer.specs.declared.Outcome.{Outcome}
+-- What a deliver that is not refused shows: its packet was read, is for the node, and is of a type that it takes. Assumes nothing.
+use Rattle.std.proofs.Common.{◌≡◌, ℕ, Bool, true, false, cond, ltb, List, length, Some, None, Ok, Err, Option, Result, refl, arith}
+use Rattle.answer.specs.declared.Delivered.{Delivered}
 use Rattle.answer.specs.declared.Refusal.{Refusal}
 use Rattle.answer.specs.declared.Refusal.TheVariants.{ShortOutput}
-use Rattle.wire.specs.declared.packet.Body.{Body}
 use Rattle.wire.specs.declared.packet.Message.{Message}
 use Rattle.address.specs.declared.Address.{Address}
-use Rattle.address.specs.Addresses.{reply_length, reply_buffer}
-use Rattle.address.specs.Deliveries.{Acceptance, admission, accepted, delivered_in, deliver_answer, delivered, deliver_after, deliver_buffer}
+use Rattle.address.specs.Addresses.{address_answer, reply_length}
+use Rattle.address.specs.Deliveries.{Acceptance, past_address, delivered_in, deliver_answer}
 
-module _ {N I : Type 0} (a : Address) (takes : Message (List ℕ) → Option I) (accepts : ℕ → I → Acceptance N) (n : N)
-    (r : Result (Message (List ℕ)) Refusal) (p : Message (List ℕ)) (read : Ok p ≡ r) (i : I) (let_in : Ok i ≡ admission a takes p) where
-  is_accepted : delivered a takes accepts n r ≡ accepts p.writer i
-  is_accepted = ap (delivered a takes accepts n) (sym read) ∙ ap (accepted accepts n p.writer) (sym let_in)
+-- the packet was read, and let in as `incoming`, whose outcome is the answer
+pub record LetIn {N I : Type 0} (a : Address) (takes : Message (List ℕ) → Option I) (accepts : ℕ → I → Acceptance N) (r : Result (Message (List ℕ)) Refusal) (d : Delivered) : Type 0 where
+  pub packet : Message (List ℕ)
+  pub incoming : I
+  pub read : r ≡ Ok packet
+  pub address : address_answer a packet ≡ Ok tt
+  pub known : takes packet ≡ Some incoming
+  pub outcome : d.outcome ≡ (accepts packet.writer incoming).outcome
 
-  pub short_answer : (out : List ℕ) → length out < 26 → Err ShortOutput ≡ deliver_answer a takes accepts r out
-  short_answer out short =
-      sym (ap (λ d. deliver_answer a takes accepts d out) (sym read) ∙ ap (λ x. delivered_in a accepts p.writer x out) (sym let_in) ∙ cond-true (ltb (length out) 26) _ _ (lt-ltb (length out) 26 short))
+answer_is : (b : Bool) (e : Refusal) (x d : Delivered) → cond b (Err e) (Ok x) ≡ Ok d → d.outcome ≡ x.outcome
+answer_is true e x d ok = grind arith
+answer_is false e x d ok = cc
 
-  -- told is what the node made of the packet: the answer and the reply
-  pub answer_is : (out : List ℕ) (told : Outcome × Option (Body Infallible)) (len : ℕ) → 26 ≤ length out → told ≡ ((accepts p.writer i).outcome, (accepts p.writer i).reply) → len ≡ reply_length a p.writer told.1 out → Ok (record { outcome = told.0; reply = len }) ≡ deliver_answer a takes accepts r out
-  answer_is out told len room is long =
-      let outcome : told.0 ≡ (accepts p.writer i).outcome = ap (λ (t : Outcome × Option (Body Infallible)). t.0) is in
-      let reply : len ≡ reply_length a p.writer (accepts p.writer i).reply out = long ∙ ap (λ (t : Outcome × Option (Body Infallible)). reply_length a p.writer t.1 out) is in
-      ap (λ o. Ok (record { outcome = o; reply = len })) outcome ∙ ap (λ l. Ok (record { outcome = (accepts p.writer i).outcome; reply = l })) reply
-      ∙ sym (ap (λ d. deliver_answer a takes accepts d out) (sym read) ∙ ap (λ x. delivered_in a accepts p.writer x out) (sym let_in) ∙ cond-false (ltb (length out) 26) _ _ (le-ltb (length out) 26 room))
+module _ {N I : Type 0} (a : Address) (takes : Message (List ℕ) → Option I) (accepts : ℕ → I → Acceptance N) where
+  past : (p : Message (List ℕ)) (w : Result (Unit {0}) Refusal) (o : Option I) (out : List ℕ) (d : Delivered) → address_answer a p ≡ w → takes p ≡ o → delivered_in a accepts p.writer (past_address w o) out ≡ Ok d → LetIn a takes accepts (Ok p) d
+  past p (Err e) o out d for knows ok = grind arith
+  past p (Ok x) None out d for knows ok = grind arith
+  past p (Ok x) (Some i) out d for knows ok = record {
+    packet = p;
+    incoming = i;
+    read = refl;
+    address = for;
+    known = knows;
+    outcome = answer_is (ltb (length out) 26) ShortOutput (record { outcome = (accepts p.writer i).outcome; reply = reply_length a p.writer (accepts p.writer i).reply out }) d ok;
+  }
 
-  pub after_is : (left : N) → left ≡ (accepts p.writer i).node → left ≡ deliver_after a takes accepts true n r
-  after_is left is = is ∙ ap (λ (x : Acceptance N). x.node) (sym is_accepted)
-
-  pub buffer_is : (out left : List ℕ) (told : Outcome × Option (Body Infallible)) → told ≡ ((accepts p.writer i).outcome, (accepts p.writer i).reply) → left ≡ reply_buffer a p.writer told.1 out → left ≡ deliver_buffer a takes accepts true n r out
-  buffer_is out left told is wrote =
-      wrote ∙ ap (λ (t : Outcome × Option (Body Infallible)). reply_buffer a p.writer t.1 out) is
-      ∙ ap (λ (x : Acceptance N). reply_buffer a p.writer x.reply out) (ap (accepted accepts n p.writer) let_in)
-      ∙ ap (λ d. deliver_buffer a takes accepts true n d out) read
+  pub was_let_in : (r : Result (Message (List ℕ)) Refusal) (out : List ℕ) (d : Delivered) → deliver_answer a takes accepts r out ≡ Ok d → LetIn a takes accepts r d
+  was_let_in (Err e) out d ok = grind arith
+  was_let_in (Ok p) out d ok = past p (address_answer a p) (takes p) out d refl refl ok

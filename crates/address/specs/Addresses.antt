@@ -1,5 +1,5 @@
 -- Who a node is on the channel: which packets are for it, and what it writes. Assumes nothing.
-use Rattle.std.specs.Prelude.{ℕ, Bool, true, false, cond, ◌&&◌, ◌||◌, List, [], ◌∷◌, Some, None, Ok, Err, Option, Result, ◌==◌}
+use Rattle.std.specs.Prelude.{ℕ, Bool, true, false, cond, not, ◌&&◌, ◌||◌, List, [], ◌∷◌, Some, None, Ok, Err, Option, Result, ◌==◌, nat_le, nat_lt}
 use Rattle.std.specs.declared.convert.Infallible.{Infallible}
 use Rattle.answer.specs.declared.Refusal.{Refusal}
 use Rattle.answer.specs.declared.Refusal.TheVariants.{OtherStream, OtherAddressee}
@@ -9,6 +9,11 @@ use Rattle.wire.specs.Ranges.{packet_in_range}
 use Rattle.wire.specs.declared.packet.Body.{Body}
 use Rattle.wire.specs.declared.packet.Message.{Message}
 use Rattle.address.specs.declared.Address.{Address}
+
+-- a node can have this address and speak with another: the StreamID is at least 32,768, and the two numbers differ, and
+-- neither is 0
+abbrev pub good_beside : Address → ℕ → Bool
+good_beside a other = nat_le 32768 a.stream && (nat_lt 0 a.number && (nat_lt 0 other && not (a.number == other)))
 
 abbrev pub same_bytes : List ℕ → List ℕ → Bool
 same_bytes [] [] = true

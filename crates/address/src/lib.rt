@@ -4,7 +4,7 @@
 ghost use Rattle.std.specs.Prelude.{◌≡◌};
 ghost use Rattle.wire.specs.Encoding.{encode, buffer_after};
 ghost use Rattle.wire.specs.Plain.{plain_packet};
-ghost use Rattle.address.specs.Addresses.{same_stream, address_answer, packet_of, written, reply_length, reply_buffer};
+ghost use Rattle.address.specs.Addresses.{good_beside, same_stream, address_answer, packet_of, written, reply_length, reply_buffer};
 
 use answer::Refusal;
 use std::convert::Infallible;
@@ -23,6 +23,14 @@ pub struct Address {
 }
 
 impl Address {
+    // Whether a node can have this address and speak with `other`: the StreamID is at least 32,768, and the two numbers
+    // differ, and neither is 0.
+    pub fn is_good_beside(self, other: u16) -> bool
+        ensures { result ≡ good_beside self other }
+    {
+        self.stream >= 32768 && self.number > 0 && other > 0 && self.number != other
+    }
+
     fn is_stream_of(self, packet: &Packet<'_>) -> bool
         ensures { result ≡ same_stream self (plain_packet packet.now) }
     {

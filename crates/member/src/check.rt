@@ -24,15 +24,12 @@ fn are_distinct(numbers: &[u16]) -> bool
 pub fn check(identity: Identity, most: u16, rate: u16, others: &[u16]) -> Result<(), Refusal>
     ensures { result ≡ check_answer identity most rate others.now }
 {
-    if most == 0 || most > 16 || rate == 0 || rate > 9999 {
-        return Err(Refusal::OutOfRange);
-    }
-    if identity.address.stream < 32768 || others.len() > most as usize {
+    if !(1..=16).contains(&most) || !(1..=9999).contains(&rate) || others.len() > most as usize {
         return Err(Refusal::OutOfRange);
     }
     let own = identity.address.number;
     let upper = identity.upper.number();
-    if own == 0 || upper == 0 || own == upper || !are_distinct(others) {
+    if !identity.address.is_good_beside(upper) || !are_distinct(others) {
         return Err(Refusal::OutOfRange);
     }
     if others.contains(&own) || others.contains(&upper) {

@@ -1,10 +1,8 @@
 -- What becomes of a HACK of the top that is let in. Assumes nothing.
-use Rattle.std.proofs.Common.{◌≡◌, ℕ, ◌+◌, ◌-◌, ◌<◌, ◌≤◌, Bool, true, false, cond, eqb, ltb, List, length, Some, None, Ok, Err, Option, Result, sym, refl, ap, ◌∙◌, subst, arith}
-use Rattle.std.specs.declared.convert.Infallible.{Infallible}
-use Rattle.std.proofs.lemmas.Bool.{and_parts, lt-ltb, le-ltb, cond-true, cond-false}
+use Rattle.std.proofs.Common.{◌≡◌, ℕ, ◌+◌, ◌-◌, ◌≤◌, Bool, true, false, cond, eqb, List, Some, None, is_ok, Ok, Err, Option, Result, sym, refl, ap, ◌∙◌, subst, arith, rules}
+use Rattle.std.proofs.lemmas.Bool.{and_parts}
 use Rattle.std.proofs.lemmas.Bool.Decides.{nat_tests}
 use Rattle.answer.specs.declared.Refusal.{Refusal}
-use Rattle.answer.specs.declared.Refusal.TheVariants.{ShortOutput}
 use Rattle.answer.specs.declared.Outcome.{Outcome}
 use Rattle.answer.specs.declared.Outcome.TheVariants.{Taken, Stale}
 use Rattle.answer.specs.declared.Delivered.{Delivered}
@@ -17,60 +15,26 @@ use Rattle.wire.specs.declared.packet.Body.TheVariants as body
 use Rattle.wire.specs.declared.packet.Hack.{Hack}
 use Rattle.wire.specs.declared.packet.Message.{Message}
 use Rattle.wire.proofs.Forth.{taken}
-use Rattle.address.specs.Addresses.{address_answer, reply_length, reply_buffer}
-use Rattle.address.specs.Deliveries.{Acceptance, unchanged, known, past_address, admission, accepted, delivered_in, delivered, deliver_answer, reply_in}
+use Rattle.address.specs.Deliveries.{Acceptance, unchanged, known, past_address, accepted, delivered}
+use Rattle.address.proofs.LetIn.{LetIn, was_let_in}
 use Rattle.sender.specs.declared.sender.Sender.{Sender}
 use Rattle.sender.specs.WantedNumbers.{wants}
-use Rattle.sender.specs.Senders.{hack_in, report_from, is_fresh, reported, accepts_report, sender_answer, WantsTheMissing, SenderSound}
+use Rattle.sender.specs.Senders.{hack_in, report_from, is_fresh, reported, accepts_report, sender_answer, sender_after, WantsTheMissing, SenderSound}
 use Rattle.sender.proofs.Wants.{missing_wants, missing_from, missing_through}
 
 outcome_in : Result Delivered Refusal → Outcome
 outcome_in (Ok d) = d.outcome
 outcome_in (Err e) = Stale
 
--- a packet that came in, with the HACK that the sender takes it for
+-- a packet that was read, with the HACK that the sender takes it for
 pub record Came (s : Sender Meaning Bool) (bytes : List ℕ) (p : Message (List ℕ)) (h : Hack) : Type 0 where
-  pub read : Ok p ≡ decode bytes
-  pub address : Ok tt ≡ address_answer s.address p
-  pub report : Some h ≡ report_from s.top p
+  pub read : decode bytes ≡ Ok p
+  pub report : report_from s.top p ≡ Some h
 
 module _ (s : Sender Meaning Bool) (bytes : List ℕ) (p : Message (List ℕ)) (h : Hack) (came : Came s bytes p h) where
-  let_in : admission s.address (report_from s.top) p ≡ Ok h
-  let_in = ap (λ r. past_address r (report_from s.top p)) (sym came.address) ∙ ap known (sym came.report)
-
   -- what comes of it, by whether it is fresh
   abbrev either : Bool → Acceptance (Sender Meaning Bool)
   either b = cond b (record { node = reported s h; outcome = Taken; reply = None }) (unchanged s)
-
-  -- there is never a reply
-  quiet : (b : Bool) → (either b).reply ≡ None
-  quiet true = refl
-  quiet false = refl
-
-  answered : (out : List ℕ) → delivered_in s.address (accepts_report s) p.writer (Ok h) out ≡ sender_answer s bytes out
-  answered out =
-      sym (ap (λ d. deliver_answer s.address (report_from s.top) (accepts_report s) d out) (sym came.read) ∙ ap (λ x. delivered_in s.address (accepts_report s) p.writer x out) let_in)
-
-  pub short_answer : (out : List ℕ) → length out < 26 → Err ShortOutput ≡ sender_answer s bytes out
-  short_answer out l = sym (cond-true (ltb (length out) 26) _ _ (lt-ltb (length out) 26 l)) ∙ answered out
-
-  pub long_answer : (out : List ℕ) (o : Outcome) → 26 ≤ length out → o ≡ (accepts_report s 0 h).outcome → Ok (record { outcome = o; reply = 0 }) ≡ sender_answer s bytes out
-  long_answer out o l is =
-      let told : Outcome → Option (Body Infallible) → Result Delivered Refusal = λ o r. Ok (record { outcome = o; reply = reply_length s.address p.writer r out }) in
-      ap (λ o. told o None) is ∙ ap (told (accepts_report s 0 h).outcome) (sym (quiet (is_fresh s h))) ∙ sym (cond-false (ltb (length out) 26) _ _ (le-ltb (length out) 26 l)) ∙ answered out
-
-  came_to : delivered s.address (report_from s.top) (accepts_report s) s (decode bytes) ≡ accepts_report s 0 h
-  came_to =
-      ap (delivered s.address (report_from s.top) (accepts_report s) s) (sym came.read) ∙ ap (accepted (accepts_report s) s p.writer) let_in
-
-  pub long_after : (after : Sender Meaning Bool) → after ≡ (accepts_report s 0 h).node → after ≡ (delivered s.address (report_from s.top) (accepts_report s) s (decode bytes)).node
-  long_after after is = is ∙ sym (ap (λ x. x.node) came_to)
-
-  pub long_buffer : (out : List ℕ) → out ≡ reply_in s.address (report_from s.top) (accepts_report s) s (decode bytes) out
-  long_buffer out =
-      sym (ap (λ d. reply_in s.address (report_from s.top) (accepts_report s) s d out) (sym came.read)
-      ∙ ap (λ x. reply_buffer s.address p.writer (accepted (accepts_report s) s p.writer x).reply out) let_in
-      ∙ ap (λ r. reply_buffer s.address p.writer r out) (quiet (is_fresh s h)))
 
   -- the HACK is the packet's body
   of_body : (b : Body (List ℕ)) → Some h ≡ hack_in b → b ≡ body.Hack h
@@ -93,11 +57,11 @@ module _ (s : Sender Meaning Bool) (bytes : List ℕ) (p : Message (List ℕ)) (
   from_top false x e = grind arith
 
   hack_body : p.body ≡ body.Hack h
-  hack_body = of_body p.body (from_top (eqb p.writer s.top) (hack_in p.body) came.report)
+  hack_body = of_body p.body (from_top (eqb p.writer s.top) (hack_in p.body) (sym came.report))
 
-  pub in_range : hack_in_range h ≡ true
+  in_range : hack_in_range h ≡ true
   in_range =
-      let t = taken bytes p (sym came.read) in
+      let t = taken bytes p came.read in
       let all = (and_parts (counts_agree bytes) (packet_in_range (packet_at bytes)) t.good).1 in
       let good : packet_in_range p ≡ true = ap packet_in_range (sym t.same) ∙ all in
       ap body_in_range (sym hack_body) ∙ (and_parts (header_in_range p.stream p.writer) (body_in_range p.body) good).1
@@ -119,10 +83,10 @@ module _ (s : Sender Meaning Bool) (bytes : List ℕ) (p : Message (List ℕ)) (
   fresh_if true e = refl
   fresh_if false e = grind arith
 
-  pub wants_missing : (after : Sender Meaning Bool) (o : Outcome) → o ≡ (accepts_report s 0 h).outcome → after ≡ (accepts_report s 0 h).node → WantsTheMissing bytes (Ok (record { outcome = o; reply = 0 })) after.wanted
+  wants_missing : (o : Outcome) → o ≡ (accepts_report s 0 h).outcome → (after : Sender Meaning Bool) → after ≡ (accepts_report s 0 h).node → WantsTheMissing bytes (Ok (record { outcome = o; reply = 0 })) after.wanted
   unfolding outcome_in
-  wants_missing after o told is q x reads carries done n =
-      let same : q ≡ p = let e = sym reads ∙ sym came.read in cc in
+  wants_missing o told after is q x reads carries done n =
+      let same : q ≡ p = let e = sym reads ∙ came.read in cc in
       let hack : x ≡ h = let e = sym carries ∙ ap (λ m. m.body) same ∙ hack_body in cc in
       let took : o ≡ Taken = ap outcome_in done in
       let fresh = fresh_if (is_fresh s h) (sym told ∙ took) in
@@ -147,9 +111,37 @@ module _ (s : Sender Meaning Bool) (bytes : List ℕ) (p : Message (List ℕ)) (
             (omega (arith, missing_from h n m), omega (arith, missing_through h n m));
       }
 
-  pub report_keeps : (after : Sender Meaning Bool) → after ≡ (accepts_report s 0 h).node → SenderSound s → SenderSound after
+  report_keeps : (after : Sender Meaning Bool) → after ≡ (accepts_report s 0 h).node → SenderSound s → SenderSound after
   report_keeps after is sound = subst SenderSound (sym is) (go (is_fresh s h) (λ f. reported_sound f sound))
     where
       go : (b : Bool) → (b ≡ true → SenderSound (reported s h)) → SenderSound ((either b).node)
       go true f = f refl
       go false f = sound
+
+-- a deliver that is not refused took a HACK of the top
+module _ (s : Sender Meaning Bool) (bytes out : List ℕ) (d : Delivered) (ok : sender_answer s bytes out ≡ Ok d) where
+  let_in : LetIn s.address (report_from s.top) (accepts_report s) (decode bytes) d
+  let_in = was_let_in s.address (report_from s.top) (accepts_report s) (decode bytes) out d ok
+
+  came_in : Came s bytes let_in.packet let_in.incoming
+  came_in = record { read = let_in.read; report = let_in.known }
+
+  came_to : sender_after true s bytes ≡ (accepts_report s 0 let_in.incoming).node
+  came_to =
+      ap (λ r. (delivered s.address (report_from s.top) (accepts_report s) s r).node) let_in.read
+      ∙ ap (λ r. (accepted (accepts_report s) s let_in.packet.writer (past_address r (report_from s.top let_in.packet))).node) let_in.address
+      ∙ ap (λ o. (accepted (accepts_report s) s let_in.packet.writer (known o)).node) let_in.known
+
+  after_sound : SenderSound s → SenderSound (sender_after true s bytes)
+  after_sound = report_keeps s bytes let_in.packet let_in.incoming came_in (sender_after true s bytes) came_to
+
+pub delivered_keeps : (s : Sender Meaning Bool) (bytes out : List ℕ) (r : Result Delivered Refusal) → r ≡ sender_answer s bytes out → SenderSound s → SenderSound (sender_after (is_ok r) s bytes)
+delivered_keeps s bytes out (Ok d) is sound = after_sound s bytes out d (sym is) sound
+delivered_keeps s bytes out (Err e) is sound = sound
+
+pub delivered_wants : (s : Sender Meaning Bool) (bytes out : List ℕ) (r : Result Delivered Refusal) → r ≡ sender_answer s bytes out → WantsTheMissing bytes r (sender_after (is_ok r) s bytes).wanted
+delivered_wants s bytes out (Err e) is q x reads carries done n = absurd (search rules)
+delivered_wants s bytes out (Ok d) is q x reads carries done n =
+    let ok = sym is ∙ done in
+    let i = let_in s bytes out _ ok in
+    wants_missing s bytes i.packet i.incoming (came_in s bytes out _ ok) Taken i.outcome (sender_after true s bytes) (came_to s bytes out _ ok) q x reads carries refl n

@@ -1,5 +1,5 @@
 -- What each call of a sender answers, and what the sender and the buffer then hold. Assumes nothing.
-use Rattle.std.specs.Prelude.{◌≡◌, ℕ, ◌+◌, ◌-◌, ◌<◌, ◌≤◌, Bool, true, false, cond, not, ◌&&◌, List, Some, None, Ok, Err, Option, Result, ◌==◌, nat_le, nat_lt}
+use Rattle.std.specs.Prelude.{◌≡◌, ℕ, ◌+◌, ◌-◌, ◌<◌, ◌≤◌, Bool, true, false, cond, ◌&&◌, List, Some, None, Ok, Err, Option, Result, ◌==◌, nat_le, nat_lt}
 use Rattle.std.specs.declared.convert.Infallible.{Infallible}
 use Rattle.answer.specs.declared.Refusal.{Refusal}
 use Rattle.answer.specs.declared.Refusal.TheVariants.{OutOfRange, BadPayload, WindowFull, Exhausted, Full}
@@ -14,7 +14,7 @@ use Rattle.wire.specs.declared.packet.Body.TheVariants as body
 use Rattle.wire.specs.declared.packet.Hack.{Hack}
 use Rattle.wire.specs.declared.packet.Message.{Message}
 use Rattle.address.specs.declared.Address.{Address}
-use Rattle.address.specs.Addresses.{packet_of, written}
+use Rattle.address.specs.Addresses.{good_beside, packet_of, written}
 use Rattle.address.specs.Deliveries.{Acceptance, unchanged, deliver_answer, deliver_after, deliver_buffer}
 use Rattle.sender.specs.declared.sender.Sender.{Sender}
 use Rattle.sender.specs.declared.wanted.Wanted.{Wanted}
@@ -31,12 +31,9 @@ open_seen meaning s = sender_seen meaning (λ _. false) s
 abbrev pub ended_seen : {Q P : Type 0} → (Q → Meaning) → Sender Q P → Sender Meaning Bool
 ended_seen meaning s = sender_seen meaning (λ _. true) s
 
--- what a sender can be made with: the StreamID is at least 32,768, and its own number and the top's are two, none of them 0
-abbrev pub good_making : Address → ℕ → Bool
-good_making a top = nat_le 32768 a.stream && (nat_lt 0 a.number && (nat_lt 0 top && not (a.number == top)))
-
+-- a sender can be made if its own number and the top's are good beside each other
 abbrev pub check_answer : Address → ℕ → Result (Unit {0}) Refusal
-check_answer a top = cond (good_making a top) (Ok tt) (Err OutOfRange)
+check_answer a top = cond (good_beside a top) (Ok tt) (Err OutOfRange)
 
 -- a sender just made
 abbrev pub new_sender : Address → ℕ → Meaning → Sender Meaning Bool

@@ -9,8 +9,9 @@ use answer::Refusal;
 pub fn check(address: Address, top: u16) -> Result<(), Refusal>
     ensures { result ≡ check_answer address top }
 {
-    if address.stream < 32768 || address.number == 0 || top == 0 || address.number == top {
-        return Err(Refusal::OutOfRange);
+    if address.is_good_beside(top) {
+        Ok(())
+    } else {
+        Err(Refusal::OutOfRange)
     }
-    Ok(())
 }
