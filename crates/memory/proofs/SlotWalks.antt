@@ -2,12 +2,12 @@
 use Rattle.std.specs.Prelude.{◌≡◌, ℕ, zero, suc, ◌+◌, ◌-◌, ◌*◌, ◌/◌, ◌%◌, ◌<◌, ◌≤◌, Bool, true, false, cond, ◌&&◌, List, [], ◌∷◌, ◌++◌, length, take, drop, replicate, slice_index, ◌==◌, ◌≢◌, nat_eq, refl}
 use Rattle.std.proofs.Common.{sym, ap, subst, ◌∙◌, inl, inr, arith, add-one, below_more}
 use Rattle.std.proofs.Math.Seq.{paste}
-use Rattle.std.proofs.lemmas.List.{append-nil, append_assoc, length-append, length-drop, length-replicate, get_or-replicate, get_or-drop, get_or_past, drop-drop, drop_at, take_at, take_all, take-take, nil_from_length}
+use Rattle.std.proofs.lemmas.List.{append-nil, append_assoc, length-append, length-drop, length-replicate, get_or-replicate, get_or-drop, get_or_past, drop-drop, drop_at, take_at, take_all, take-take}
 use Rattle.std.proofs.lemmas.List.Edits.{length-paste}
 use Rattle.std.proofs.lemmas.Bool.{both_ways, cases_eq, cases_lt, eq-eqb, eqb-true, ne_eqb, cond-true, cond-false, and_parts}
 use Rattle.std.proofs.lemmas.Bool.Decides.{nat_tests}
 use Rattle.store.specs.Pairs.{pair, Pair, holds, payload_of, add, above, in_order, good, distinct}
-use Rattle.memory.specs.Records.{number_of, length_of, size_of, body_of, record_of, encoded}
+use Rattle.memory.specs.Records.{number_of, length_of, body_of, record_of, encoded}
 use Rattle.memory.specs.Slots.{slot_count, slot, one, slots, slot_pairs, Short, home, Homed}
 use Rattle.memory.specs.Lengths.{length_one, length_slots}
 use Rattle.store.proofs.Keeping.{holds_append, payload_append, above_append, above_in_order, length_above, distinct_above, distinct_front, distinct_mid, in_order_mid}

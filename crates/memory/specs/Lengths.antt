@@ -17,4 +17,3 @@ length_one xs = grind (arith, nat_tests)
 pub length_slots : (n : ℕ) (xs : List ℕ) → length (slots n xs) ≤ n
 length_slots zero xs = omega arith
 length_slots (suc n) xs = omega (arith, length-append (slots n xs) (one (slot n xs)), length_slots n xs, length_one (slot n xs))
-

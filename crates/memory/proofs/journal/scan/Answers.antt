@@ -1,4 +1,4 @@
-use Rattle.std.proofs.Common.{◌≡◌, sym, ◌∙◌, arith}
+use Rattle.std.proofs.Common.{sym, ◌∙◌, arith}
 use Rattle.memory.proofs.RecordsLemmas.{rest_is}
 use Rattle.memory.proofs.JournalWalks.{seeking_head, seeking_more, seeking_here, seeking_all}
 use Rattle.memory.proofs.journal.scan.Goals as goal

@@ -1,8 +1,8 @@
-use Rattle.std.proofs.Common.{◌≡◌, ◌+◌, false, [], ◌∷◌, ◌++◌, length, sym, refl, ap, subst, ◌∙◌, arith}
+use Rattle.std.proofs.Common.{length, sym, refl, ap, ◌∙◌, arith}
 use Rattle.std.proofs.lemmas.List.{length-append}
 use Rattle.store.specs.Pairs.{holds}
 use Rattle.memory.specs.Slots.{slot_count, slot, slots}
-use Rattle.memory.proofs.SlotWalks.{Walking, alone, walk_step, walk_end, seek_more, seek_here}
+use Rattle.memory.proofs.SlotWalks.{alone, walk_step, walk_end, seek_more, seek_here}
 use Rattle.memory.proofs.slots.scan.Goals as goal
 
 pub loop-slot-init : goal.loop-slot-init

@@ -1,8 +1,8 @@
-use Rattle.std.proofs.Common.{◌≡◌, ◌+◌, ◌<◌, length, sym, refl, ap, subst, ◌∙◌, arith}
+use Rattle.std.proofs.Common.{◌≡◌, ◌<◌, length, sym, refl, ap, subst, ◌∙◌, arith}
 use Rattle.std.proofs.lemmas.Bool.{lt-ltb, le-ltb}
 use Rattle.memory.specs.Records.{length_of}
 use Rattle.memory.specs.Slots.{slot_count, slot, slots}
-use Rattle.memory.proofs.SlotWalks.{Walking, alone_length, walk_step, walk_end, some_free, full_more}
+use Rattle.memory.proofs.SlotWalks.{alone_length, walk_step, walk_end, some_free, full_more}
 use Rattle.memory.proofs.slots.scan_free.Goals as goal
 
 pub loop-i-init : goal.loop-i-init

@@ -1,4 +1,4 @@
-use Rattle.std.proofs.Common.{◌≡◌, ◌-◌, ◌*◌, ◌/◌, ◌%◌, ◌<◌, true, false, length, take, drop, vec_items, sym, ap, subst, ◌∙◌, mod-lt, arith}
+use Rattle.std.proofs.Common.{◌≡◌, ◌*◌, ◌/◌, ◌%◌, ◌<◌, true, false, vec_items, sym, ap, subst, ◌∙◌, mod-lt, arith}
 use Rattle.store.specs.Pairs.{holds}
 use Rattle.memory.specs.Records.{body_of}
 use Rattle.memory.specs.Slots.{slot_count, slot, one}
