@@ -4,6 +4,7 @@
 ghost use Rattle.std.specs.Prelude.{◌≡◌, Some};
 ghost use Rattle.answer.specs.Refusals.{refusal_number, refusal_text};
 
+use std::error::Error;
 use std::fmt;
 
 // The reason why a call was refused. A refused call changes no node and no store and writes no byte.
@@ -87,7 +88,7 @@ pub enum Outcome {
     Taken,
 }
 
-// The answer of a deliver that is not refused, with the length of the reply, or 0 for none.
+// The answer of a deliver that is not refused. `reply` bytes of the caller's buffer are the reply; 0 bytes are no reply.
 #[derive(Clone, Copy)]
 pub struct Delivered {
     pub outcome: Outcome,
@@ -101,3 +102,5 @@ impl fmt::Display for Refusal {
         f.write_str(self.text())
     }
 }
+
+impl Error for Refusal {}

@@ -1,8 +1,9 @@
 // A worked example for makers of memory cards: a store with room for one record, and its proof.
 #![tactic(auto)]
 
-ghost use Rattle.std.specs.Prelude.{◌≡◌, ◌≤◌, true, [], ◌∷◌, length, nat_le};
-ghost use Rattle.store.specs.Pairs.{pair, good, distinct};
+ghost use Rattle.std.specs.Prelude.{◌≡◌, ◌≤◌, true, [], ◌∷◌, ◌++◌, length, drop, nat_le, is_some, IfSome};
+ghost use Rattle.std.specs.Option.{ForSome};
+ghost use Rattle.store.specs.Pairs.{pair, good, distinct, holds, payload_of};
 ghost use Rattle.card.specs.Cards.{card_capacity, card_pairs, card_meaning};
 ghost use Rattle.std.proofs.Common.{rules};
 
@@ -10,26 +11,46 @@ use answer::Refusal;
 use store::Store;
 use store::checks::{LONGEST, check_pair, copy_payload};
 
-// The payload lies at the front of the memory; number 0 says that there is none.
+// A record on the card: its number, and how many bytes at the front of the memory are its payload.
+#[derive(Clone, Copy)]
+struct Held {
+    number: u32,
+    len: usize,
+}
+
 #[derive(Drop)]
 pub struct Card {
     memory: Vec<u8>,
-    number: u32,
-    len: usize,
-    ghost within: { len ≤ length memory.items },
-    ghost distinct: { distinct (card_pairs number len memory.items) ≡ true },
-    ghost room: { nat_le (length (card_pairs number len memory.items)) (card_capacity memory.items) ≡ true },
+    held: Option<Held>,
+    ghost within: { ForSome held (λ h. h.len ≤ length memory.items) },
+    ghost distinct: { distinct (card_pairs held memory.items) ≡ true },
+    ghost room: { nat_le (length (card_pairs held memory.items)) (card_capacity memory.items) ≡ true },
+}
+
+// Writes `payload` to the front of `bytes`.
+fn write_front(bytes: &mut [u8], payload: &[u8])
+    requires { length payload.now ≤ length bytes.old }
+    ensures { bytes.new ≡ payload.now ++ drop (length payload.now) bytes.old }
+{
+    bytes[..payload.len()].copy_from_slice(payload);
 }
 
 impl Card {
     // An empty card over memory of any length.
     pub fn new(memory: Vec<u8>) -> Card
-        ensures { card_meaning result.number result.len result.memory.items ≡ record { capacity = card_capacity memory.items; pairs = [] } }
+        ensures { card_meaning result.held result.memory.items ≡ record { capacity = card_capacity memory.items; pairs = [] } }
     {
-        Card {
-            memory,
-            number: 0,
-            len: 0,
+        Card { memory, held: None }
+    }
+
+    // The payload under `number`.
+    fn find(&self, number: u32) -> Option<&[u8]>
+        ensures test { is_some result ≡ holds number (card_pairs self.now.held self.now.memory.items) }
+        ensures payload { IfSome result (λ p. p.now ≡ payload_of number (card_pairs self.now.held self.now.memory.items)) }
+    {
+        match self.held {
+            Some(held) if held.number == number => Some(&self.memory[..held.len]),
+            _ => None,
         }
     }
 
@@ -37,17 +58,17 @@ impl Card {
     fn write(&mut self, number: u32, payload: &[u8])
         requires good { good (pair number payload.now) ≡ true }
         requires room { 512 ≤ length self.old.memory.items }
-        ensures after { card_meaning self.new.number self.new.len self.new.memory.items ≡ record { capacity = card_capacity self.old.memory.items; pairs = pair number payload.now ∷ [] } }
+        ensures after { card_meaning self.new.held self.new.memory.items ≡ record { capacity = card_capacity self.old.memory.items; pairs = pair number payload.now ∷ [] } }
         ensures size { length self.new.memory.items ≡ length self.old.memory.items }
     {
-        let _ = copy_payload(payload, &mut self.memory);
-        self.number = number;
-        self.len = payload.len();
+        write_front(&mut self.memory, payload);
+        let len = payload.len();
+        self.held = Some(Held { number, len });
     }
 }
 
 impl Store for Card {
-    ghost meaning = { λ s. card_meaning s.number s.len s.memory.items };
+    ghost meaning = { λ s. card_meaning s.held s.memory.items };
 
     ghost medium = { λ s. s.memory.items };
 
@@ -55,10 +76,10 @@ impl Store for Card {
 
     fn put(&mut self, number: u32, payload: &[u8]) -> Result<(), Refusal> {
         check_pair(number, payload)?;
-        if self.number == number {
+        if self.find(number).is_some() {
             return Err(Refusal::Held);
         }
-        if self.number != 0 || self.memory.len() < LONGEST {
+        if self.held.is_some() || self.memory.len() < LONGEST {
             return Err(Refusal::Full);
         }
         self.write(number, payload);
@@ -66,19 +87,17 @@ impl Store for Card {
     }
 
     fn copy(&mut self, number: u32, buffer: &mut [u8]) -> Result<usize, Refusal> {
-        if number == 0 || self.number != number {
-            return Err(Refusal::NotHeld);
-        }
-        copy_payload(&self.memory[0..self.len], buffer)
+        let payload = self.find(number).ok_or(Refusal::NotHeld)?;
+        copy_payload(payload, buffer)
     }
 
     fn has(&mut self, number: u32) -> bool {
-        number != 0 && self.number == number
+        self.find(number).is_some()
     }
 
     fn forget(&mut self, number: u32) {
-        if self.number <= number {
-            self.number = 0;
+        if self.held.is_some_and(|held| held.number <= number) {
+            self.held = None;
         }
     }
 }

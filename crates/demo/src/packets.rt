@@ -1,19 +1,14 @@
 // A record as the packet that carries it, and what a station makes of the packet, whole and damaged.
 use crate::tell_refusal;
+use answer::Refusal;
 use queue::Queue;
 use std::io;
 use store::Store;
+use store::checks::LONGEST;
 use wire::{Body, Message, TreeId, read, write};
 
 // The longest packet with a payload.
-const LONGEST: usize = 534;
-
-// A packet: the first `len` of the bytes.
-#[derive(Clone, Copy)]
-pub(crate) struct Carried {
-    bytes: [u8; LONGEST],
-    len: usize,
-}
+const LONGEST_PACKET: usize = 534;
 
 fn tell_bytes(rt: &HostRuntime, bytes: &[u8]) -> io::Result<()> {
     print!(rt; "  ")?;
@@ -23,44 +18,54 @@ fn tell_bytes(rt: &HostRuntime, bytes: &[u8]) -> io::Result<()> {
     println!(rt; "")
 }
 
+// The length that a call answered, or else 0, once its refusal is shown.
+fn length_or_refusal(rt: &HostRuntime, answer: Result<usize, Refusal>) -> io::Result<usize> {
+    match answer {
+        Ok(len) => Ok(len),
+        Err(refusal) => {
+            tell_refusal(rt, refusal)?;
+            Ok(0)
+        }
+    }
+}
+
 // Takes a record from the queue, and shows and gives the Data packet that carries it.
 pub(crate) fn carry<Q: Store>(
     rt: &HostRuntime,
     queue: &mut Queue<Q>,
     number: u32,
-) -> io::Result<Carried> {
-    let mut payload = [0u8; 512];
-    let mut bytes = [0u8; LONGEST];
-    let size = match queue.read(number, &mut payload) {
-        Ok(size) => size.min(512),
-        Err(refusal) => {
-            tell_refusal(rt, refusal)?;
-            0
-        }
-    };
-    let packet = Message {
+) -> anyhow::Result<Vec<u8>> {
+    let mut payload = vec![in rt.alloc(); 0u8; LONGEST]?;
+    let len = length_or_refusal(rt, queue.read(number, &mut payload))?;
+    payload.truncate(len);
+    let message = Message {
         tree: TreeId([10, 11, 12, 13, 14, 15]),
         stream: 40000,
         writer: 1,
         addressee: 0,
         body: Body::Data {
             number,
-            payload: &payload[0..size],
+            payload: payload.as_slice(),
         },
     };
-    let len = match write(&packet, &mut bytes) {
-        Ok(len) => len.min(LONGEST),
-        Err(refusal) => {
-            tell_refusal(rt, refusal)?;
-            0
-        }
-    };
+    let mut packet = vec![in rt.alloc(); 0u8; LONGEST_PACKET]?;
+    let len = length_or_refusal(rt, write(&message, &mut packet))?;
+    packet.truncate(len);
     println!(rt; "  record {number} as a packet of {len} bytes:")?;
-    tell_bytes(rt, &bytes[0..len])?;
-    Ok(Carried { bytes, len })
+    tell_bytes(rt, &packet)?;
+    Ok(packet)
 }
 
-// What a station does with bytes from the channel: a record goes into its archive.
+// Puts the record that a packet carries, if any, into an archive, and answers its number.
+fn take_record<A: Store>(packet: &[u8], station: &mut A) -> Result<Option<u32>, Refusal> {
+    let Body::Data { number, payload } = read(packet)?.body else {
+        return Ok(None);
+    };
+    station.put(number, payload)?;
+    Ok(Some(number))
+}
+
+// What a station does with bytes from the channel.
 fn receive<A: Store>(
     rt: &HostRuntime,
     what: &str,
@@ -68,56 +73,45 @@ fn receive<A: Store>(
     station: &mut A,
 ) -> io::Result<()> {
     print!(rt; "  {what}: ")?;
-    match read(bytes) {
-        Ok(packet) => match packet.body {
-            Body::Data { number, payload } => match station.put(number, payload) {
-                Ok(()) => println!(rt; "record {number} archived"),
-                Err(refusal) => tell_refusal(rt, refusal),
-            },
-            _ => println!(rt; "no record"),
-        },
+    match take_record(bytes, station) {
+        Ok(Some(number)) => println!(rt; "record {number} archived"),
+        Ok(None) => println!(rt; "no record"),
         Err(refusal) => tell_refusal(rt, refusal),
     }
 }
 
-// The packet with one byte changed.
+// The packet with one byte changed at a time.
 fn receive_changed<A: Store>(
     rt: &HostRuntime,
-    what: &str,
-    packet: Carried,
-    change: (usize, u8),
+    packet: &[u8],
     station: &mut A,
-) -> io::Result<()> {
-    let mut bytes = packet.bytes;
-    let (at, byte) = change;
-    if at < LONGEST {
-        bytes[at] = byte;
+) -> anyhow::Result<()> {
+    for (what, at, byte) in [
+        ("another version", 0, 48),
+        ("another type", 1, 14),
+        ("number 0", 19, 0),
+    ] {
+        let mut changed = packet.to_vec(rt.alloc())?;
+        if let Some(place) = changed.get_mut(at) {
+            *place = byte;
+        }
+        receive(rt, what, &changed, station)?;
     }
-    receive(rt, what, &bytes[0..packet.len.min(LONGEST)], station)
+    Ok(())
 }
 
 // The packet with one thing wrong at a time, and then whole, twice.
 pub(crate) fn arrive<A: Store>(
     rt: &HostRuntime,
-    packet: Carried,
+    packet: &[u8],
     station: &mut A,
-) -> io::Result<()> {
-    let len = packet.len.min(LONGEST);
-    receive(
-        rt,
-        "only 15 bytes arrive",
-        &packet.bytes[0..len.min(15)],
-        station,
-    )?;
-    receive(
-        rt,
-        "the last byte is lost",
-        &packet.bytes[0..len.saturating_sub(1)],
-        station,
-    )?;
-    receive_changed(rt, "another version", packet, (0, 48), station)?;
-    receive_changed(rt, "another type", packet, (1, 14), station)?;
-    receive_changed(rt, "number 0", packet, (19, 0), station)?;
-    receive(rt, "as it was written", &packet.bytes[0..len], station)?;
-    receive(rt, "the same again", &packet.bytes[0..len], station)
+) -> anyhow::Result<()> {
+    let len = packet.len();
+    receive(rt, "only 15 bytes arrive", &packet[..len.min(15)], station)?;
+    let shorter = &packet[..len.saturating_sub(1)];
+    receive(rt, "the last byte is lost", shorter, station)?;
+    receive_changed(rt, packet, station)?;
+    receive(rt, "as it was written", packet, station)?;
+    receive(rt, "the same again", packet, station)?;
+    Ok(())
 }

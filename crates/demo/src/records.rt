@@ -17,12 +17,13 @@ fn offer<Q: Store>(rt: &HostRuntime, queue: &mut Queue<Q>, text: &str) -> io::Re
 fn read_back<Q: Store>(rt: &HostRuntime, queue: &mut Queue<Q>, number: u32) -> io::Result<()> {
     let mut buffer = [b'.'; 24];
     print!(rt; "  read record {number}: ")?;
-    match queue.read(number, &mut buffer) {
-        Ok(len) => match std::str::from_utf8(&buffer) {
-            Ok(text) => println!(rt; "{len} bytes, buffer \"{text}\""),
-            Err(_) => println!(rt; "{len} bytes"),
-        },
-        Err(refusal) => tell_refusal(rt, refusal),
+    let len = match queue.read(number, &mut buffer) {
+        Ok(len) => len,
+        Err(refusal) => return tell_refusal(rt, refusal),
+    };
+    match std::str::from_utf8(&buffer) {
+        Ok(text) => println!(rt; "{len} bytes, buffer \"{text}\""),
+        Err(_) => println!(rt; "{len} bytes"),
     }
 }
 
@@ -79,7 +80,7 @@ pub(crate) fn task<Q: MadeOver + Drop, A: MadeOver + Drop>(rt: &HostRuntime) -> 
     fill_and_archive(rt, &mut queue, &mut station)?;
     release(rt, &mut queue)?;
     let packet = carry(rt, &mut queue, 4)?;
-    arrive(rt, packet, &mut station)?;
+    arrive(rt, &packet, &mut station)?;
     let queued = queue.into_store().into_memory();
     let archived = station.into_memory();
     let queue_bytes = queued.len();

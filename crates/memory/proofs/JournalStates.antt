@@ -8,7 +8,7 @@ use Rattle.memory.specs.declared.journal.Journal.{Journal}
 use Rattle.store.specs.Pairs.{pair, holds, above, in_order, good, distinct}
 use Rattle.memory.specs.Records.{records, span, encoded}
 use Rattle.store.proofs.Keeping.{distinct_push, distinct_above, above_in_order, length_in_order}
-use Rattle.memory.specs.RecordsLemmas.{length_records}
+use Rattle.memory.specs.Lengths.{length_records}
 use Rattle.memory.proofs.JournalWalks.{room_for, appended}
 
 -- what s holds once `new` is in its memory

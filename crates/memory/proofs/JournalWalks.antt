@@ -1,50 +1,43 @@
 -- The journal's two walks over its records, turn by turn. Assumes nothing.
-use Rattle.std.proofs.Common.{◌≡◌, ℕ, ◌+◌, ◌-◌, ◌/◌, ◌<◌, ◌≤◌, true, false, eqb, ltb, List, [], ◌∷◌, ◌++◌, length, take, drop, sym, ap, ◌∙◌, arith}
+use Rattle.std.proofs.Common.{◌≡◌, ℕ, ◌+◌, ◌-◌, ◌/◌, ◌<◌, ◌≤◌, true, false, eqb, ltb, List, [], ◌∷◌, ◌++◌, length, take, drop, sym, ap, subst, ◌∙◌, arith}
 use lib.Seq.{paste}
 use Rattle.std.proofs.lemmas.List.{append-nil, append_assoc, length-drop, drop-drop, take_all}
 use Rattle.std.proofs.lemmas.List.Edits.{length-paste}
 use Rattle.std.proofs.lemmas.Bool.{eq-eqb, ne_eqb, lt-ltb, le-ltb, cond-true, cond-false}
 use Rattle.store.specs.Pairs.{pair, holds, payload_of, above, distinct}
-use Rattle.memory.specs.Records.{number_of, length_of, size_of, record_of, records, span, encoded, Found}
-use Rattle.memory.specs.RecordsLemmas.{run_step, run_push, same_run, same_record, same_length, paste_front, paste_here, paste_past, paste_drop, span_bound, length_encoded, decoded, paste_same, number_is, payload_is}
+use Rattle.memory.specs.Records.{number_of, length_of, size_of, body_of, record_of, records, span, encoded}
+use Rattle.memory.proofs.RecordsLemmas.{run_step, run_push, same_run, same_record, same_length, paste_front, paste_here, paste_past, paste_drop, span_bound, length_encoded, decoded, paste_same, number_is, payload_is}
 
--- a walk that looks for n: `left` records from `at` on are not yet read
-pub record Seeking (bs : List ℕ) (count n at left : ℕ) : Type 0 where
-  pub fits : at + span left (drop at bs) ≤ length bs
-  pub held : holds n (records count bs) ≡ holds n (records left (drop at bs))
-  pub payload : payload_of n (records count bs) ≡ payload_of n (records left (drop at bs))
+-- a walk that looks for n: `left` records of `rest` are not yet read
+pub record Seeking (bs : List ℕ) (count n : ℕ) (rest : List ℕ) (left : ℕ) : Type 0 where
+  pub fits : span left rest ≤ length rest
+  pub held : holds n (records count bs) ≡ holds n (records left rest)
+  pub payload : payload_of n (records count bs) ≡ payload_of n (records left rest)
 
-module _ {bs : List ℕ} {count n at left : ℕ} (s : Seeking bs count n at left) where
-  pub seeking_head : 0 < left → at + size_of (drop at bs) ≤ length bs
-  seeking_head l = omega (arith, (run_step left (drop at bs) l).1, s.fits)
+module _ {bs : List ℕ} {count n : ℕ} {rest : List ℕ} {left : ℕ} (s : Seeking bs count n rest left) (l : 0 < left) where
+  pub seeking_head : size_of rest ≤ length rest
+  seeking_head = omega (arith, (run_step left rest l).1, s.fits)
 
-  pub seeking_more : 0 < left → (number_of (drop at bs) ≡ n → ⊥) → Seeking bs count n (at + size_of (drop at bs)) (left - 1)
-  seeking_more l ne =
-      let xs = drop at bs in
-      let st = run_step left xs l in
-      let dd : drop (size_of xs) xs ≡ drop (at + size_of xs) bs = drop-drop (size_of xs) at bs in
-      let no : eqb n (record_of xs).number ≡ false = ne_eqb n (record_of xs).number (λ e. ne (sym (number_is xs) ∙ sym e)) in
-      let rest : records (left - 1) (drop (size_of xs) xs) ≡ records (left - 1) (drop (at + size_of xs) bs) = ap (records (left - 1)) dd in
-      record {
-        fits = omega (arith, st.1, s.fits, ap (span (left - 1)) dd);
-        held = s.held ∙ ap (holds n) st.0 ∙ cond-false (eqb n (record_of xs).number) true _ no ∙ ap (holds n) rest;
-        payload = s.payload ∙ ap (payload_of n) st.0 ∙ cond-false (eqb n (record_of xs).number) _ _ no ∙ ap (payload_of n) rest;
+  pub seeking_more : (fewer : ℕ) → left - 1 ≡ fewer → (number_of rest ≡ n → ⊥) → Seeking bs count n (drop (size_of rest) rest) fewer
+  seeking_more fewer e ne =
+      let st = run_step left rest l in
+      let no : eqb n (record_of rest).number ≡ false = ne_eqb n (record_of rest).number (λ e. ne (sym (number_is rest) ∙ sym e)) in
+      subst (Seeking bs count n (drop (size_of rest) rest)) e record {
+        fits = omega (arith, st.1, s.fits, length-drop (size_of rest) rest);
+        held = s.held ∙ ap (holds n) st.0 ∙ cond-false (eqb n (record_of rest).number) true _ no;
+        payload = s.payload ∙ ap (payload_of n) st.0 ∙ cond-false (eqb n (record_of rest).number) _ _ no;
       }
 
-  pub seeking_here : 0 < left → number_of (drop at bs) ≡ n → Found bs (records count bs) n at
-  seeking_here l e =
-      let xs = drop at bs in
-      let st = run_step left xs l in
-      let dd : drop 6 xs ≡ drop (at + 6) bs = drop-drop 6 at bs in
-      let is : eqb n (record_of xs).number ≡ true = eq-eqb n (record_of xs).number (sym e ∙ sym (number_is xs)) in
-      record {
-        held = s.held ∙ ap (holds n) st.0 ∙ cond-true (eqb n (record_of xs).number) true _ is;
-        payload = sym (s.payload ∙ ap (payload_of n) st.0 ∙ cond-true (eqb n (record_of xs).number) _ _ is ∙ payload_is xs ∙ ap (take (length_of xs)) dd);
-        within = seeking_head l;
-      }
+  pub seeking_here : number_of rest ≡ n → (holds n (records count bs) ≡ true) × (body_of rest ≡ payload_of n (records count bs))
+  seeking_here e =
+      let st = run_step left rest l in
+      let is : eqb n (record_of rest).number ≡ true = eq-eqb n (record_of rest).number (sym e ∙ sym (number_is rest)) in (
+        s.held ∙ ap (holds n) st.0 ∙ cond-true (eqb n (record_of rest).number) true _ is,
+        sym (s.payload ∙ ap (payload_of n) st.0 ∙ cond-true (eqb n (record_of rest).number) _ _ is ∙ payload_is rest),
+      )
 
-  pub seeking_all : left ≡ 0 → holds n (records count bs) ≡ false
-  seeking_all e = s.held ∙ ap (λ k. holds n (records k (drop at bs))) e
+pub seeking_all : {bs : List ℕ} {count n : ℕ} {rest : List ℕ} {left : ℕ} → Seeking bs count n rest left → left ≡ 0 → holds n (records count bs) ≡ false
+seeking_all {bs} {count} {n} {rest} s e = s.held ∙ ap (λ k. holds n (records k rest)) e
 
 -- a walk that keeps what is above n: `kept` records lie in the first `to` bytes, and `left` from `from` on are not yet read
 pub record Packing (was bs : List ℕ) (count n kept to from left : ℕ) : Type 0 where
@@ -60,15 +53,15 @@ module _ {was bs : List ℕ} {count n kept to from left : ℕ} (s : Packing was 
   pub packing_head : 0 < left → from + size_of (drop from bs) ≤ length bs
   packing_head l = omega (arith, (run_step left (drop from bs) l).1, s.fits)
 
-  pub packing_skip : 0 < left → number_of (drop from bs) ≤ n → Packing was bs count n kept to (from + size_of (drop from bs)) (left - 1)
-  packing_skip l le =
+  pub packing_skip : 0 < left → (fewer : ℕ) → left - 1 ≡ fewer → number_of (drop from bs) ≤ n → Packing was bs count n kept to (from + size_of (drop from bs)) fewer
+  packing_skip l fewer one-less le =
       let xs = drop from bs in
       let st = run_step left xs l in
       let dd : drop (size_of xs) xs ≡ drop (from + size_of xs) bs = drop-drop (size_of xs) from bs in
       let no : ltb n (record_of xs).number ≡ false = le-ltb n (record_of xs).number (omega (arith, number_is xs)) in
       let out : above n (records left xs) ≡ above n (records (left - 1) (drop (from + size_of xs) bs)) =
       ap (above n) st.0 ∙ cond-false (ltb n (record_of xs).number) _ _ no ∙ ap (λ ys. above n (records (left - 1) ys)) dd in
-      record {
+      subst (Packing was bs count n kept to (from + size_of (drop from bs))) one-less record {
         keeps = ap (λ ps. records kept bs ++ ps) (sym out) ∙ s.keeps;
         end = s.end;
         behind = omega (arith, s.behind);
@@ -78,8 +71,8 @@ module _ {was bs : List ℕ} {count n kept to from left : ℕ} (s : Packing was 
         still = λ e. absurd (omega (arith, s.fewer));
       }
 
-  pub packing_move : (new : List ℕ) → 0 < left → n < number_of (drop from bs) → new ≡ paste bs to (drop from bs) (size_of (drop from bs)) → Packing was new count n (kept + 1) (to + size_of (drop from bs)) (from + size_of (drop from bs)) (left - 1)
-  packing_move new l lt is =
+  pub packing_move : (new : List ℕ) → 0 < left → (fewer : ℕ) → left - 1 ≡ fewer → n < number_of (drop from bs) → new ≡ paste bs to (drop from bs) (size_of (drop from bs)) → Packing was new count n (kept + 1) (to + size_of (drop from bs)) (from + size_of (drop from bs)) fewer
+  packing_move new l fewer one-less lt is =
       let xs = drop from bs in
       let size = size_of xs in
       let st = run_step left xs l in
@@ -102,7 +95,7 @@ module _ {was bs : List ℕ} {count n kept to from left : ℕ} (s : Packing was 
       let joined : records (kept + 1) new ≡ records kept bs ++ (record_of xs ∷ []) =
       push.0 ∙ ap (λ ys. records kept new ++ (record_of ys ∷ [])) at-to ∙ ap (λ r. records kept new ++ (r ∷ [])) (sym rec) ∙ ap (λ rs. rs ++ (record_of xs ∷ [])) (sym old.0) in
       let long-new : length new ≡ length bs = ap length is ∙ length-paste bs to xs size (omega (arith, s.behind)) long-enough in
-      record {
+      subst (Packing was new count n (kept + 1) (to + size_of (drop from bs)) (from + size_of (drop from bs))) one-less record {
         keeps = ap (λ rs. rs ++ above n (records (left - 1) (drop (from + size) new))) joined
             ∙ append_assoc (records kept bs) (record_of xs ∷ []) (above n (records (left - 1) (drop (from + size) new)))
             ∙ ap (λ ps. records kept bs ++ ps) (sym out) ∙ s.keeps;

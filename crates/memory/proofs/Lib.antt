@@ -1,3 +1,5 @@
+pub mod RecordsLemmas
+pub mod SlotWalks
 pub mod JournalWalks
 pub mod JournalStates
 pub mod SlotStates

@@ -1,4 +1,3 @@
 pub mod Records
 pub mod Slots
-pub mod RecordsLemmas
-pub mod SlotWalks
+pub mod Lengths

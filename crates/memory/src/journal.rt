@@ -2,13 +2,13 @@
 // It knows the highest number that it has held, so a newer number is known at once to be new.
 ghost use Rattle.std.specs.Prelude.{◌≡◌, ℕ, ◌+◌, ◌/◌, ◌<◌, ◌≤◌, true, false, [], ◌∷◌, ◌++◌, length, drop, is_some, IfSome, refl};
 ghost use Rattle.std.proofs.Math.Seq.{paste};
-ghost use Rattle.store.specs.Pairs.{pair, holds, above, in_order, good, distinct};
-ghost use Rattle.memory.specs.Records.{records, span, Found};
+ghost use Rattle.store.specs.Pairs.{pair, holds, payload_of, above, in_order, good, distinct};
+ghost use Rattle.memory.specs.Records.{records, span};
 ghost use Rattle.std.proofs.Common.{arith};
-ghost use Rattle.memory.specs.RecordsLemmas.{length_records};
+ghost use Rattle.memory.specs.Lengths.{length_records};
 ghost use Rattle.store.proofs.Keeping.{sound_in_order};
 
-use super::layout::{HEAD, ROOM, length_at, number_at, payload_at, write_record};
+use super::layout::{HEAD, ROOM, length_of, number_of, payload_of, write_record};
 use answer::Refusal;
 use store::checks::{check_pair, copy_payload};
 use store::{MadeOver, Store};
@@ -27,20 +27,18 @@ pub struct Journal {
     ghost top: { (n : ℕ) → highest < n → holds n (records count memory.items) ≡ false },
 }
 
-// The place of the record with `number` among the first `count`.
-fn scan(bytes: &[u8], count: usize, number: u32) -> Option<usize>
+// The payload under `number` among the first `count` records.
+fn scan(bytes: &[u8], count: usize, number: u32) -> Option<&[u8]>
     requires { span count bytes.now ≤ length bytes.now }
     ensures test { is_some result ≡ holds number (records count bytes.now) }
-    ensures place { IfSome result (λ at. Found bytes.now (records count bytes.now) number at) }
+    ensures payload { IfSome result (λ p. p.now ≡ payload_of number (records count bytes.now)) }
 {
-    let mut at = 0;
-    let mut left = count;
-    while left > 0 {
-        if number_at(bytes, at) == number {
-            return Some(at);
+    let mut rest = bytes;
+    for _ in 0..count {
+        if number_of(rest) == number {
+            return Some(payload_of(rest));
         }
-        at += HEAD + length_at(bytes, at);
-        left -= 1;
+        rest = &rest[HEAD + length_of(rest)..];
     }
     None
 }
@@ -69,25 +67,24 @@ fn compact(bytes: &mut [u8], count: usize, number: u32) -> (usize, usize)
     let mut stays = 0;
     let mut to = 0;
     let mut from = 0;
-    let mut left = count;
-    while left > 0 {
-        let size = HEAD + length_at(bytes, from);
-        if number_at(bytes, from) > number {
+    for _ in 0..count {
+        let record = &bytes[from..];
+        let size = HEAD + length_of(record);
+        if number_of(record) > number {
             move_down(bytes, from, size, to);
             to += size;
             stays += 1;
         }
         from += size;
-        left -= 1;
     }
     (stays, to)
 }
 
 impl Journal {
-    // The place of the record with `number`. A number above the highest needs no search.
-    fn find(&self, number: u32) -> Option<usize>
+    // The payload under `number`. A number above the highest needs no search.
+    fn find(&self, number: u32) -> Option<&[u8]>
         ensures test { is_some result ≡ holds number (records self.now.count self.now.memory.items) }
-        ensures place { IfSome result (λ at. Found self.now.memory.items (records self.now.count self.now.memory.items) number at) }
+        ensures payload { IfSome result (λ p. p.now ≡ payload_of number (records self.now.count self.now.memory.items)) }
     {
         if number > self.highest {
             return None;
@@ -130,10 +127,8 @@ impl Store for Journal {
     }
 
     fn copy(&mut self, number: u32, buffer: &mut [u8]) -> Result<usize, Refusal> {
-        let Some(at) = self.find(number) else {
-            return Err(Refusal::NotHeld);
-        };
-        copy_payload(payload_at(&self.memory, at), buffer)
+        let payload = self.find(number).ok_or(Refusal::NotHeld)?;
+        copy_payload(payload, buffer)
     }
 
     fn has(&mut self, number: u32) -> bool {
@@ -158,7 +153,6 @@ impl MadeOver for Journal {
     }
 
     fn into_memory(self) -> Vec<u8> {
-        let Journal { memory, .. } = self;
-        memory
+        self.memory
     }
 }

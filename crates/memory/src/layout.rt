@@ -1,7 +1,7 @@
 // A record in memory: its number in 4 bytes and its length in 2, highest byte first, and then the payload.
-ghost use Rattle.std.specs.Prelude.{◌≡◌, ◌+◌, ◌<◌, ◌≤◌, length, drop};
+ghost use Rattle.std.specs.Prelude.{◌≡◌, ◌+◌, ◌<◌, ◌≤◌, length};
 ghost use Rattle.std.proofs.Math.Seq.{paste};
-ghost use Rattle.memory.specs.Records.{number_of, length_of, size_of, body_at, encoded};
+ghost use Rattle.memory.specs.Records.{number_of, length_of, size_of, body_of, encoded};
 
 // The bytes before a record's payload.
 pub(crate) const HEAD: usize = 6;
@@ -9,34 +9,33 @@ pub(crate) const HEAD: usize = 6;
 // The bytes of the longest record: a store has room for one record in each of these.
 pub(crate) const ROOM: usize = 518;
 
-// The number of the record at `at`.
-pub(crate) fn number_at(bytes: &[u8], at: usize) -> u32
-    requires { at + 6 ≤ length bytes.now }
-    ensures { result ≡ number_of (drop at bytes.now) }
+// The number of the record at the front of `record`.
+pub(crate) fn number_of(record: &[u8]) -> u32
+    requires { 6 ≤ length record.now }
+    ensures { result ≡ number_of record.now }
 {
-    u32::from_be_bytes([bytes[at], bytes[at + 1], bytes[at + 2], bytes[at + 3]])
+    u32::from_be_bytes([record[0], record[1], record[2], record[3]])
 }
 
 // The length of its payload.
-pub(crate) fn length_at(bytes: &[u8], at: usize) -> usize
-    requires { at + 6 ≤ length bytes.now }
-    ensures value { result ≡ length_of (drop at bytes.now) }
+pub(crate) fn length_of(record: &[u8]) -> usize
+    requires { 6 ≤ length record.now }
+    ensures value { result ≡ length_of record.now }
     ensures bound { result < 65536 }
 {
-    usize::from(u16::from_be_bytes([bytes[at + 4], bytes[at + 5]]))
+    usize::from(u16::from_be_bytes([record[4], record[5]]))
 }
 
 // Its payload.
-pub(crate) fn payload_at(bytes: &[u8], at: usize) -> &[u8]
-    requires { at + size_of (drop at bytes.now) ≤ length bytes.now }
-    ensures { result.now ≡ body_at at bytes.now }
+pub(crate) fn payload_of(record: &[u8]) -> &[u8]
+    requires { size_of record.now ≤ length record.now }
+    ensures { result.now ≡ body_of record.now }
 {
-    let body = at + HEAD;
-    let end = body + length_at(bytes, at);
-    &bytes[body..end]
+    &record[HEAD..HEAD + length_of(record)]
 }
 
-// Writes a record at `at`, and no byte elsewhere.
+// Writes a record at `at`, and no byte elsewhere. The place is a parameter, since what is written to a part that a
+// `Vec` lends out is lost to its proofs.
 pub(crate) fn write_record(bytes: &mut [u8], at: usize, number: u32, payload: &[u8])
     requires fits { at + (6 + length payload.now) ≤ length bytes.old }
     requires short { length payload.now < 65536 }

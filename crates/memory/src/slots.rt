@@ -1,13 +1,13 @@
 // A slot store: slots of one size, each with a record or free. A number's home is the slot that it picks by its
 // remainder; while every record lies at home, one look tells whether a number is held.
-ghost use Rattle.std.specs.Prelude.{◌≡◌, ◌+◌, ◌*◌, ◌/◌, ◌%◌, ◌<◌, true, false, ◌&&◌, [], length, is_some, IfSome, ◌==◌, nat_lt, refl};
-ghost use Rattle.store.specs.Pairs.{pair, holds, add, above, in_order, good, distinct};
-ghost use Rattle.memory.specs.Records.{length_of, Found};
+ghost use Rattle.std.specs.Prelude.{◌≡◌, ◌+◌, ◌*◌, ◌/◌, ◌%◌, ◌<◌, ◌≤◌, true, false, [], length, is_some, IfSome, nat_lt, refl};
+ghost use Rattle.store.specs.Pairs.{pair, holds, payload_of, add, above, in_order, good, distinct};
+ghost use Rattle.memory.specs.Records.{length_of};
 ghost use Rattle.memory.specs.Slots.{slot_count, slot, one, slots, slot_pairs, Short, Homed};
 ghost use Rattle.store.proofs.Keeping.{sound_in_order};
-ghost use Rattle.memory.specs.SlotWalks.{length_slots};
+ghost use Rattle.memory.specs.Lengths.{length_slots};
 
-use super::layout::{ROOM, length_at, number_at, payload_at, write_record};
+use super::layout::{ROOM, length_of, number_of, payload_of, write_record};
 use answer::Refusal;
 use store::checks::{check_pair, copy_payload};
 use store::{MadeOver, Store};
@@ -24,36 +24,24 @@ pub struct SlotStore {
     ghost homes: { homed ≡ true → Homed (slot_count memory.items) (slot_count memory.items) memory.items },
 }
 
-// Frees each of the slots.
-fn free_all(bytes: &mut [u8])
-    ensures short { Short (slot_count bytes.old) bytes.new }
-    ensures empty { slots (slot_count bytes.old) bytes.new ≡ [] }
+// Tells whether a slot holds `number`.
+fn slot_holds(slot: &[u8], number: u32) -> bool
+    requires { 6 ≤ length slot.now }
+    ensures { result ≡ holds number (one slot.now) }
 {
-    let count = bytes.len() / ROOM;
-    for i in 0..count {
-        write_record(bytes, i * ROOM, 0, &[]);
-    }
+    length_of(slot) > 0 && number_of(slot) == number
 }
 
-// Tells whether slot `i` holds `number`.
-fn holds_at(bytes: &[u8], i: usize, number: u32) -> bool
-    requires { i < slot_count bytes.now }
-    ensures { result ≡ holds number (one (slot i bytes.now)) }
-{
-    length_at(bytes, i * ROOM) > 0 && number_at(bytes, i * ROOM) == number
-}
-
-// The slot that holds `number`, by a look at each.
-fn scan(bytes: &[u8], number: u32) -> Option<usize>
+// The payload under `number`, by a look at each slot.
+fn scan(bytes: &[u8], number: u32) -> Option<&[u8]>
     requires short { Short (slot_count bytes.now) bytes.now }
     requires distinct { distinct (slot_pairs bytes.now) ≡ true }
     ensures test { is_some result ≡ holds number (slot_pairs bytes.now) }
-    ensures place { IfSome result (λ i. Found bytes.now (slot_pairs bytes.now) number (i * 518)) }
+    ensures payload { IfSome result (λ p. p.now ≡ payload_of number (slot_pairs bytes.now)) }
 {
-    let count = bytes.len() / ROOM;
-    for i in 0..count {
-        if holds_at(bytes, i, number) {
-            return Some(i);
+    for slot in bytes.chunks_exact(ROOM) {
+        if slot_holds(slot, number) {
+            return Some(payload_of(slot));
         }
     }
     None
@@ -64,21 +52,20 @@ fn scan_free(bytes: &[u8]) -> Option<usize>
     ensures test { is_some result ≡ nat_lt (length (slot_pairs bytes.now)) (slot_count bytes.now) }
     ensures place { IfSome result (λ i. (i < slot_count bytes.now) × (length_of (slot i bytes.now) ≡ 0)) }
 {
-    let count = bytes.len() / ROOM;
-    for i in 0..count {
-        if length_at(bytes, i * ROOM) == 0 {
+    for (i, slot) in bytes.chunks_exact(ROOM).enumerate() {
+        if length_of(slot) == 0 {
             return Some(i);
         }
     }
     None
 }
 
-// Tells whether all records lie at home, where slot `i` of `count` has one more, with `number`.
-fn still_homed(homed: bool, number: u32, i: usize, count: usize) -> bool
+// The slot that `number` picks among `count`.
+fn home(number: u32, count: usize) -> usize
     requires { 0 < count }
-    ensures { result ≡ (homed && number % count == i) }
+    ensures { result ≡ number % count }
 {
-    homed && number as usize % count == i
+    number as usize % count
 }
 
 // Frees each slot whose number is at most `number`. Answers how many keep a record, and whether each of these lies
@@ -94,15 +81,16 @@ fn free_through(bytes: &mut [u8], number: u32) -> (usize, bool)
     let count = bytes.len() / ROOM;
     let mut used = 0;
     let mut homed = true;
+    // by number, since after a borrow by `chunks_exact_mut` no proof knows the bytes
     for i in 0..count {
-        let at = i * ROOM;
-        if length_at(bytes, at) > 0 {
-            let held = number_at(bytes, at);
+        let slot = &bytes[i * ROOM..];
+        if length_of(slot) > 0 {
+            let held = number_of(slot);
             if held <= number {
-                write_record(bytes, at, 0, &[]);
+                write_record(bytes, i * ROOM, 0, &[]);
             } else {
                 used += 1;
-                homed = still_homed(homed, held, i, count);
+                homed &= home(held, count) == i;
             }
         }
     }
@@ -110,18 +98,18 @@ fn free_through(bytes: &mut [u8], number: u32) -> (usize, bool)
 }
 
 impl SlotStore {
-    // The slot that holds `number`: at home, or else, unless all lie at home, by a look at each.
-    fn find(&self, number: u32) -> Option<usize>
+    // The payload under `number`: at home, or else, unless all lie at home, by a look at each slot.
+    fn find(&self, number: u32) -> Option<&[u8]>
         ensures test { is_some result ≡ holds number (slot_pairs self.now.memory.items) }
-        ensures place { IfSome result (λ i. Found self.now.memory.items (slot_pairs self.now.memory.items) number (i * 518)) }
+        ensures payload { IfSome result (λ p. p.now ≡ payload_of number (slot_pairs self.now.memory.items)) }
     {
         let count = self.memory.len() / ROOM;
         if count == 0 {
             return None;
         }
-        let home = number as usize % count;
-        if holds_at(&self.memory, home, number) {
-            return Some(home);
+        let slot = &self.memory[home(number, count) * ROOM..];
+        if slot_holds(slot, number) {
+            return Some(payload_of(slot));
         }
         if self.homed {
             return None;
@@ -138,9 +126,9 @@ impl SlotStore {
         if self.used >= count {
             return None;
         }
-        let home = number as usize % count;
-        if length_at(&self.memory, home * ROOM) == 0 {
-            return Some(home);
+        let i = home(number, count);
+        if length_of(&self.memory[i * ROOM..]) == 0 {
+            return Some(i);
         }
         scan_free(&self.memory)
     }
@@ -157,7 +145,7 @@ impl SlotStore {
         let count = self.memory.len() / ROOM;
         write_record(&mut self.memory, i * ROOM, number, payload);
         self.used += 1;
-        self.homed = still_homed(self.homed, number, i, count);
+        self.homed &= home(number, count) == i;
     }
 }
 
@@ -175,18 +163,14 @@ impl Store for SlotStore {
         if self.find(number).is_some() {
             return Err(Refusal::Held);
         }
-        let Some(i) = self.find_free(number) else {
-            return Err(Refusal::Full);
-        };
+        let i = self.find_free(number).ok_or(Refusal::Full)?;
         self.place(i, number, payload);
         Ok(())
     }
 
     fn copy(&mut self, number: u32, buffer: &mut [u8]) -> Result<usize, Refusal> {
-        let Some(i) = self.find(number) else {
-            return Err(Refusal::NotHeld);
-        };
-        copy_payload(payload_at(&self.memory, i * ROOM), buffer)
+        let payload = self.find(number).ok_or(Refusal::NotHeld)?;
+        copy_payload(payload, buffer)
     }
 
     fn has(&mut self, number: u32) -> bool {
@@ -202,7 +186,7 @@ impl Store for SlotStore {
 
 impl MadeOver for SlotStore {
     fn new(mut memory: Vec<u8>) -> SlotStore {
-        free_all(&mut memory);
+        memory.fill(0);
         SlotStore {
             memory,
             used: 0,
@@ -211,7 +195,6 @@ impl MadeOver for SlotStore {
     }
 
     fn into_memory(self) -> Vec<u8> {
-        let SlotStore { memory, .. } = self;
-        memory
+        self.memory
     }
 }

@@ -8,10 +8,7 @@ ghost use Rattle.queue.specs.Queues.{seen, offer_answer, offer_after, release_af
 
 use answer::Refusal;
 use store::Store;
-use store::checks::LONGEST;
-
-// The last number that a record can have.
-const LAST: u32 = 4_294_967_294;
+use store::checks::{LAST, LONGEST};
 
 #[derive(Drop)]
 pub struct Queue<S> {
@@ -63,16 +60,16 @@ impl<S: Store> Queue<S> {
         ensures after { A.Store.meaning archive.new ≡ pass_after (is_ok result) (S.Store.meaning self.old.store) (A.Store.meaning archive.old) number }
         ensures same { seen S.Store.meaning self.new ≡ seen S.Store.meaning self.old }
     {
+        // a buffer and the length of what lies in it, since no call allocates
         let mut payload = [0u8; LONGEST];
         let len = self.store.copy(number, &mut payload)?;
-        archive.put(number, &payload[0..len])
+        archive.put(number, &payload[..len])
     }
 
     // Gives the store back.
     pub fn into_store(self) -> S
         ensures { result ≡ self.store }
     {
-        let Queue { store, .. } = self;
-        store
+        self.store
     }
 }

@@ -93,11 +93,13 @@ distinct_front p (r ∷ ps) qs d =
     let other : p.number ≡ r.number → ⊥ = λ e. both_ways (holds r.number (ps ++ (p ∷ qs))) free (ap (λ n. holds n (ps ++ (p ∷ qs))) (sym e) ∙ holds_mid p ps qs) in
     cond-false (eqb p.number r.number) true _ (ne_eqb p.number r.number other) ∙ distinct_front p ps qs parts.1
 
+-- which numbers are left after a forget
+pub holds_above : (n k : ℕ) (ps : List Pair) → holds n (above k ps) ≡ cond (ltb k n) (holds n ps) false
+holds_above n k [] = grind (arith, nat_tests)
+holds_above n k (p ∷ ps) = let ih = holds_above n k ps in grind (arith, nat_tests)
+
 pub free_above : (n k : ℕ) (ps : List Pair) → holds n ps ≡ false → holds n (above k ps) ≡ false
-free_above n k [] h = refl
-free_above n k (p ∷ ps) h =
-    let free : holds n ps ≡ false = grind (arith, nat_tests) in
-    let ih = free_above n k ps free in grind (arith, nat_tests)
+free_above n k ps h = let e = holds_above n k ps in grind (arith, nat_tests)
 
 pub distinct_above : (k : ℕ) (ps : List Pair) → distinct ps ≡ true → distinct (above k ps) ≡ true
 distinct_above k [] h = refl
@@ -200,10 +202,6 @@ length_held n (p ∷ ps) a h =
     ]
 
 -- what is left after a forget
-pub holds_above : (n k : ℕ) (ps : List Pair) → holds n (above k ps) ≡ cond (ltb k n) (holds n ps) false
-holds_above n k [] = grind (arith, nat_tests)
-holds_above n k (p ∷ ps) = let ih = holds_above n k ps in grind (arith, nat_tests)
-
 pub payload_above : (n k : ℕ) (ps : List Pair) → k < n → payload_of n (above k ps) ≡ payload_of n ps
 payload_above n k [] l = refl
 payload_above n k (p ∷ ps) l = let ih = payload_above n k ps l in grind (arith, nat_tests)

@@ -10,9 +10,11 @@ pub fn lowest_missing<S: Store>(store: &mut S, start: u32) -> u32
     ensures value { result ≡ lowest_missing start (S.meaning store.old).pairs }
     ensures same { S.meaning store.new ≡ S.meaning store.old }
 {
-    let mut low = start;
-    while store.has(low) {
-        low += 1;
+    for low in start..u32::MAX {
+        if !store.has(low) {
+            return low;
+        }
     }
-    low
+    // no store holds it
+    u32::MAX
 }

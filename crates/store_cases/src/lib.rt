@@ -11,6 +11,7 @@ mod tests {
     use std::alloc::Global;
     use std::process::Abort;
     use std::test::Fail;
+    use store::checks::LAST;
     use store::{MadeOver, Store};
 
     // One call, and what it must answer. A payload's bytes follow from its number.
@@ -40,8 +41,6 @@ mod tests {
     const NOT_HELD: Result<usize, Refusal> = Err(Refusal::NotHeld);
 
     const SHORT: Result<usize, Refusal> = Err(Refusal::ShortBuffer);
-
-    const LAST: u32 = 4_294_967_294;
 
     // 517 bytes: no room for one record.
     const NO_ROOM: [Step; 6] = [
@@ -141,7 +140,7 @@ mod tests {
         for (i, byte) in payload.iter_mut().enumerate() {
             *byte = byte_of(number, i);
         }
-        store.put(number, &payload[0..len.min(513)])
+        store.put(number, &payload[..len.min(513)])
     }
 
     // Bytes beyond the payload, and all of them on a refusal, stay as they were.
@@ -153,7 +152,7 @@ mod tests {
         room: usize,
     ) -> Result<usize, Refusal> {
         let mut buffer = [255u8; 520];
-        let answer = store.copy(number, &mut buffer[0..room.min(520)]);
+        let answer = store.copy(number, &mut buffer[..room.min(520)]);
         let front = answer.unwrap_or(0);
         for (i, byte) in buffer.iter().enumerate() {
             let want = if i < front { byte_of(number, i) } else { 255 };

@@ -1,6 +1,6 @@
 use Rattle.std.proofs.Common.{◌≡◌, drop, sym, ap, ◌∙◌, arith}
 use lib.Seq.{paste}
-use Rattle.memory.specs.RecordsLemmas.{paste_same}
+use Rattle.memory.proofs.RecordsLemmas.{paste_same}
 use Rattle.memory.proofs.journal.move_down.Goals as goal
 
 pub returns-else-to-from : goal.returns-else-to-from

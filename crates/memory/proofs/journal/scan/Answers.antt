@@ -1,19 +1,28 @@
-use Rattle.std.proofs.Common.{◌∙◌, arith, rules}
+use Rattle.std.proofs.Common.{sym, ◌∙◌, arith}
+use Rattle.memory.proofs.RecordsLemmas.{rest_is}
 use Rattle.memory.proofs.JournalWalks.{seeking_head, seeking_more, seeking_here, seeking_all}
 use Rattle.memory.proofs.journal.scan.Goals as goal
 
-pub number_at-requires : goal.number_at-requires
-number_at-requires c = omega (arith, seeking_head c.loop-left.invariant c.loop-left-test.true)
+pub number_of-requires : goal.number_of-requires
+number_of-requires c = omega (arith, seeking_head c.loop.invariant (omega (arith, c.loop-test.true)))
 
-pub returns-then-number_at-number : goal.returns-then-number_at-number
-returns-then-number_at-number c = search (rules, seeking_here)
+pub payload_of-requires : goal.payload_of-requires
+payload_of-requires c = seeking_head c.loop.invariant (omega (arith, c.loop-test.true))
 
-pub length_at-requires : goal.length_at-requires
-length_at-requires c = omega (arith, seeking_head c.loop-left.invariant c.loop-left-test.true)
+pub returns-then-number_of-number : goal.returns-then-number_of-number
+returns-then-number_of-number c =
+    let f = seeking_here c.loop.invariant (omega (arith, c.loop-test.true)) (sym c.number_of.ensures ∙ c.if-number_of-number.true) in
+    record { test = sym f.0; payload = c.payload_of.ensures ∙ f.1 }
 
-pub loop-left-preserved : goal.loop-left-preserved
-loop-left-preserved c =
-    rw c.length_at.ensures.value (seeking_more c.loop-left.invariant c.loop-left-test.true (λ e. c.if-number_at-number.false (c.number_at.ensures ∙ e)))
+pub length_of-requires : goal.length_of-requires
+length_of-requires c = omega (arith, seeking_head c.loop.invariant (omega (arith, c.loop-test.true)))
 
-pub returns : goal.returns
-returns c = search (rules, seeking_all)
+pub slice_bounds-rest-start : goal.slice_bounds-rest-start
+slice_bounds-rest-start c = omega (arith, seeking_head c.loop.invariant (omega (arith, c.loop-test.true)), c.length_of.ensures.value)
+
+pub loop-preserved : goal.loop-preserved
+loop-preserved c =
+    rw (rest_is, c.length_of.ensures.value) (seeking_more c.loop.invariant (omega (arith, c.loop-test.true)) _ (omega arith) (λ e. c.if-number_of-number.false (c.number_of.ensures ∙ e)))
+
+pub returns-clause-test : goal.returns-clause-test
+returns-clause-test c = sym (seeking_all c.loop.invariant (omega (arith, c.loop-test.false, c.loop.auto.counter-end)))

@@ -1,6 +1,6 @@
 use Rattle.std.proofs.Common.{refl, ◌∙◌, arith}
 use Rattle.memory.specs.Records.{header}
-use Rattle.memory.specs.RecordsLemmas.{three_writes}
+use Rattle.memory.proofs.RecordsLemmas.{three_writes}
 use Rattle.memory.proofs.layout.write_record.Goals as goal
 
 pub returns : goal.returns

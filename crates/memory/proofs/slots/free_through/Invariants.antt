@@ -1,5 +1,5 @@
 use Rattle.memory.specs.Slots.{slot_count}
-use Rattle.memory.specs.SlotWalks.{Freeing}
+use Rattle.memory.proofs.SlotWalks.{Freeing}
 use Rattle.memory.proofs.slots.free_through.Given as goal
 
 abbrev pub invariant-loop-i : goal.invariant-loop-i

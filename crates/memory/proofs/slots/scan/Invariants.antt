@@ -1,7 +1,8 @@
-use Rattle.std.proofs.Common.{◌≡◌, false}
+use Rattle.std.proofs.Common.{◌≡◌, false, length}
 use Rattle.store.specs.Pairs.{holds}
 use Rattle.memory.specs.Slots.{slots}
+use Rattle.memory.proofs.SlotWalks.{Walking}
 use Rattle.memory.proofs.slots.scan.Given as goal
 
-abbrev pub invariant-loop-i : goal.invariant-loop-i
-invariant-loop-i l = holds l.number (slots l.i l.bytes) ≡ false
+abbrev pub invariant-loop-slot : goal.invariant-loop-slot
+invariant-loop-slot l = Walking l.bytes l.slot-iterator.rest.now l.slot-iterator.size (length l.yielded) × (holds l.number (slots (length l.yielded) l.bytes) ≡ false)

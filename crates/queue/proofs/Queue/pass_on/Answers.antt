@@ -1,6 +1,6 @@
-use Rattle.std.proofs.Common.{◌≡◌, ◌-◌, take, is_ok, sym, ap, ◌∙◌, arith, rules}
+use Rattle.std.proofs.Common.{is_ok, sym, ap, ◌∙◌, rules}
 use Rattle.std.proofs.lemmas.Bool.{cond-true}
-use Rattle.store.specs.Pairs.{holds, payload_of}
+use Rattle.store.specs.Pairs.{holds}
 use Rattle.store.specs.Operations.{put_answer, put_after}
 use Rattle.store.proofs.Keeping.{stored}
 use Rattle.store.proofs.Copies.{copied}
@@ -17,11 +17,9 @@ returns g c =
     let len = c.in_ok-len.len in
     let e = c.in_ok-len.ensures in
     let k = copied from n _ len _ c.copy.new.buffer e.answer e.buffer in
-    let whole : len - 0 ≡ len = omega arith in
-    let cut : take (len - 0) c.copy.new.buffer ≡ payload_of n from.pairs = ap (λ j. take j c.copy.new.buffer) whole ∙ k.front in
     let same = c.copy.ensures.same in
     record {
-      answer = c.put.ensures.answer ∙ ap (put_answer to n) cut ∙ sym (cond-true (holds n from.pairs) _ _ k.held);
-      after = c.put.ensures.after ∙ ap (put_after (is_ok c.put.result) to n) cut;
+      answer = c.put.ensures.answer ∙ ap (put_answer to n) k.front ∙ sym (cond-true (holds n from.pairs) _ _ k.held);
+      after = c.put.ensures.after ∙ ap (put_after (is_ok c.put.result) to n) k.front;
       same = cc;
     }

@@ -1,6 +1,6 @@
 use Rattle.std.proofs.Common.{rules}
 use Rattle.store.proofs.Keeping.{ordered}
-use Rattle.memory.specs.RecordsLemmas.{length_records}
+use Rattle.memory.specs.Lengths.{length_records}
 use Rattle.memory.proofs.journal.JournalStore.put.Goals as goal
 
 pub returns-then-is_some : goal.returns-then-is_some

@@ -3,7 +3,7 @@ use Rattle.std.specs.Prelude.{◌≡◌, ℕ, zero, suc, ◌+◌, ◌-◌, ◌*�
 use Rattle.std.proofs.Common.{sym, ap, subst, ◌∙◌, arith, add-one}
 use borrow.Rule.Slice.PartMut.{put_mid}
 use Rattle.std.proofs.Math.Seq.{paste}
-use Rattle.std.proofs.lemmas.List.{length-append, get_or-take, drop-take, take-take, drop-drop, length-drop, length-take, drop_at, take_at, length-take-le, append_assoc, take-append-drop}
+use Rattle.std.proofs.lemmas.List.{length-append, get_or-take, drop-take, take-take, take_all, drop-drop, length-drop, length-take, drop_at, take_at, length-take-le, append_assoc, take-append-drop}
 use Rattle.std.proofs.lemmas.Slice.{put_mid-paste}
 use Rattle.std.proofs.lemmas.Nat.{shr-shr}
 use Rattle.std.proofs.lemmas.List.Edits.{paste-paste, drop-paste}
@@ -43,6 +43,10 @@ module _ (d : List ℕ) (at : ℕ) (s : List ℕ) (n : ℕ) (within : at ≤ len
       let z : at + n + (e - (at + n)) ≡ e = omega arith in
       let q = drop-paste d at s n within h in
       subst (λ k. drop k (paste d at s n) ≡ drop k d) z (sym x ∙ ap (drop (e - (at + n))) q ∙ y)
+
+-- what `&xs[k..]` has
+pub rest_is : (k : ℕ) (xs : List ℕ) → take (length xs - k) (drop k xs) ≡ drop k xs
+rest_is k xs = take_all (length xs - k) (drop k xs) (omega (arith, length-drop k xs))
 
 -- bytes that agree
 same_at : (m : ℕ) (xs ys : List ℕ) → take m xs ≡ take m ys → (i : ℕ) → i < m → slice_index xs i ≡ slice_index ys i
@@ -114,10 +118,6 @@ run_push n xs = rw add-one (push n xs)
         let ih = push n (drop (size_of xs) xs) in
         let dd = drop-drop (span n (drop (size_of xs) xs)) (size_of xs) xs in
         (ap (λ rs. record_of xs ∷ rs) (ih.0 ∙ ap (λ ys. records n (drop (size_of xs) xs) ++ (record_of ys ∷ [])) dd), omega (arith, ih.1, ap length_of dd))
-
-pub length_records : (n : ℕ) (xs : List ℕ) → length (records n xs) ≡ n
-length_records zero xs = refl
-length_records (suc n) xs = ap suc (length_records n (drop (size_of xs) xs))
 
 pub length_encoded : (n : ℕ) (p : List ℕ) → length (encoded n p) ≡ 6 + length p
 unfolding header

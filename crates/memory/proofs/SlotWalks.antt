@@ -1,16 +1,17 @@
 -- Slots: what a write to one leaves of the others, and the walks over them. Assumes nothing.
-use Rattle.std.specs.Prelude.{◌≡◌, ℕ, zero, suc, ◌+◌, ◌-◌, ◌*◌, ◌/◌, ◌%◌, ◌<◌, ◌≤◌, Bool, true, false, cond, ◌&&◌, List, [], ◌∷◌, ◌++◌, length, take, drop, ◌==◌, ◌≢◌, nat_eq, refl}
+use Rattle.std.specs.Prelude.{◌≡◌, ℕ, zero, suc, ◌+◌, ◌-◌, ◌*◌, ◌/◌, ◌%◌, ◌<◌, ◌≤◌, Bool, true, false, cond, ◌&&◌, List, [], ◌∷◌, ◌++◌, length, take, drop, replicate, slice_index, ◌==◌, ◌≢◌, nat_eq, refl}
 use Rattle.std.proofs.Common.{sym, ap, subst, ◌∙◌, inl, inr, arith, add-one, below_more}
 use Rattle.std.proofs.Math.Seq.{paste}
-use Rattle.std.proofs.lemmas.List.{append-nil, append_assoc, length-append, drop-drop, take_all, nil_from_length}
+use Rattle.std.proofs.lemmas.List.{append-nil, append_assoc, length-append, length-drop, length-replicate, get_or-replicate, get_or-drop, get_or_past, drop-drop, drop_at, take_at, take_all, take-take}
 use Rattle.std.proofs.lemmas.List.Edits.{length-paste}
 use Rattle.std.proofs.lemmas.Bool.{both_ways, cases_eq, cases_lt, eq-eqb, eqb-true, ne_eqb, cond-true, cond-false, and_parts}
 use Rattle.std.proofs.lemmas.Bool.Decides.{nat_tests}
 use Rattle.store.specs.Pairs.{pair, Pair, holds, payload_of, add, above, in_order, good, distinct}
-use Rattle.memory.specs.Records.{number_of, length_of, record_of, encoded, Found}
+use Rattle.memory.specs.Records.{number_of, length_of, body_of, record_of, encoded}
 use Rattle.memory.specs.Slots.{slot_count, slot, one, slots, slot_pairs, Short, home, Homed}
+use Rattle.memory.specs.Lengths.{length_one, length_slots}
 use Rattle.store.proofs.Keeping.{holds_append, payload_append, above_append, above_in_order, length_above, distinct_above, distinct_front, distinct_mid, in_order_mid}
-use Rattle.memory.specs.RecordsLemmas.{same_length, same_record, same_drop, same_less, paste_front, paste_drop, paste_past, length_encoded, decoded, number_is, payload_is}
+use Rattle.memory.proofs.RecordsLemmas.{same_length, same_record, same_drop, same_less, paste_front, paste_drop, paste_past, length_encoded, decoded, number_is, payload_is}
 
 pub one_free : (xs : List ℕ) → length_of xs ≡ 0 → one xs ≡ []
 unfolding one
@@ -26,10 +27,6 @@ same_one xs ys l e =
     let k = same_length 518 xs ys (omega arith) e in
     let r = same_record 518 xs ys (omega arith) e in
     (ap (λ j. cond (j == 0) [] (record_of xs ∷ [])) k ∙ ap (λ p. cond (length_of ys == 0) [] (p ∷ [])) r, k)
-
-length_one : (xs : List ℕ) → length (one xs) ≤ 1
-unfolding one
-length_one xs = grind (arith, nat_tests)
 
 pub same_slots : (n : ℕ) (xs ys : List ℕ) → ((k : ℕ) → k < n → one (slot k xs) ≡ one (slot k ys)) → slots n xs ≡ slots n ys
 same_slots zero xs ys h = refl
@@ -121,22 +118,62 @@ one_found n xs h =
 pub seek_more : (n i : ℕ) (bs : List ℕ) → holds n (slots i bs) ≡ false → holds n (one (slot i bs)) ≡ false → holds n (slots (i + 1) bs) ≡ false
 seek_more n i bs h tail = ap (holds n) (slots_more i bs) ∙ holds_append n (slots i bs) (one (slot i bs)) ∙ cond-false (holds n (slots i bs)) _ _ h ∙ tail
 
--- a slot that holds n is the place of n
-pub seek_here : (count n i : ℕ) (bs : List ℕ) → i < count → count * 518 ≤ length bs → Short count bs → distinct (slots count bs) ≡ true → holds n (one (slot i bs)) ≡ true → Found bs (slots count bs) n (i * 518)
-seek_here count n i bs l room short d here =
+-- a slot that holds n has the payload of n
+pub seek_here : (count n i : ℕ) (bs : List ℕ) → i < count → distinct (slots count bs) ≡ true → holds n (one (slot i bs)) ≡ true → (holds n (slots count bs) ≡ true) × (body_of (slot i bs) ≡ payload_of n (slots count bs))
+seek_here count n i bs l d here =
     let xs = slot i bs in
     let f = one_found n xs here in
     let parts = slots_edit count i bs bs l (λ k lk ne. refl) in
     let same : n ≡ (record_of xs).number = sym (number_is xs ∙ f.1) in
     let is : nat_eq n (record_of xs).number ≡ true = eq-eqb n (record_of xs).number same in
     let whole : slots count bs ≡ slots i bs ++ (record_of xs ∷ parts.0) = parts.1 ∙ ap (λ ps. slots i bs ++ (ps ++ parts.0)) (one_held xs f.0) in
-    let before : holds n (slots i bs) ≡ false = ap (λ m. holds m (slots i bs)) same ∙ distinct_front (record_of xs) (slots i bs) parts.0 (ap distinct (sym whole) ∙ d) in
-    let dd : drop 6 xs ≡ drop (i * 518 + 6) bs = drop-drop 6 (i * 518) bs in
+    let before : holds n (slots i bs) ≡ false = ap (λ m. holds m (slots i bs)) same ∙ distinct_front (record_of xs) (slots i bs) parts.0 (ap distinct (sym whole) ∙ d) in (
+      ap (holds n) whole ∙ holds_append n (slots i bs) _ ∙ cond-false (holds n (slots i bs)) _ _ before ∙ cond-true (n == (record_of xs).number) _ _ is,
+      sym (ap (payload_of n) whole ∙ payload_append n (slots i bs) (record_of xs ∷ parts.0) before ∙ cond-true (n == (record_of xs).number) _ _ is ∙ payload_is xs),
+    )
+
+-- x is the slot at the front of xs, by its own bytes alone
+pub record Alone (xs x : List ℕ) : Type 0 where
+  pub len : length_of x ≡ length_of xs
+  pub pairs : one x ≡ one xs
+  pub body : body_of x ≡ body_of xs
+
+pub alone : (xs x : List ℕ) → x ≡ take 518 xs → length_of xs ≤ 512 → Alone xs x
+alone xs x is l =
+    let e : take 518 xs ≡ take 518 x = sym (take-take 518 518 xs (omega arith)) ∙ ap (take 518) (sym is) in
+    let s = same_one xs x l e in
+    record { len = sym s.1; pairs = sym s.0; body = sym (payload_is x) ∙ ap (λ r. r.payload) (sym (same_record 518 xs x (omega arith) e)) ∙ payload_is xs }
+
+pub alone_length : (xs x : List ℕ) → x ≡ take 518 xs → length_of x ≡ length_of xs
+alone_length xs x is = sym (same_length 518 xs x (omega arith) (sym (take-take 518 518 xs (omega arith)) ∙ ap (take 518) (sym is)))
+
+-- a walk over chunks of `size` bytes has come to slot i
+pub record Walking (bs rest : List ℕ) (size i : ℕ) : Type 0 where
+  pub whole : size ≡ 518
+  pub here : rest ≡ slot i bs
+  pub within : i * 518 ≤ length bs
+
+-- its next chunk is x
+pub record Step (bs x after : List ℕ) (size i : ℕ) : Type 0 where
+  pub below : i < slot_count bs
+  pub is : x ≡ take 518 (slot i bs)
+  pub next : Walking bs after size (i + 1)
+
+pub walk_step : {bs rest x after : List ℕ} {size i : ℕ} → Walking bs rest size i → rest ≡ x ++ after → length x ≡ size → Step bs x after size i
+walk_step {bs} {rest} {x} {after} {size} {i} w split len =
+    let e : slot i bs ≡ x ++ after = sym w.here ∙ split in
+    let l : length x ≡ 518 = len ∙ w.whole in
+    let room = length-drop (i * 518) bs in
+    let long = ap length e ∙ length-append x after in
+    let z : i * 518 + 518 ≡ (i + 1) * 518 = omega arith in
     record {
-      held = ap (holds n) whole ∙ holds_append n (slots i bs) _ ∙ cond-false (holds n (slots i bs)) _ _ before ∙ cond-true (n == (record_of xs).number) _ _ is;
-      payload = sym (ap (payload_of n) whole ∙ payload_append n (slots i bs) (record_of xs ∷ parts.0) before ∙ cond-true (n == (record_of xs).number) _ _ is ∙ payload_is xs ∙ ap (take (length_of xs)) dd);
-      within = omega (arith, short i l);
+      below = omega (arith, w.within);
+      is = sym (ap (take 518) e ∙ take_at x after 518 l);
+      next = record { whole = w.whole; here = sym (drop_at x after 518 l) ∙ ap (drop 518) (sym e) ∙ drop-drop 518 (i * 518) bs ∙ ap (λ k. drop k bs) z; within = omega (arith, w.within) };
     }
+
+pub walk_end : {bs rest : List ℕ} {size i : ℕ} → Walking bs rest size i → length rest < size → i ≡ slot_count bs
+walk_end {bs} {rest} {size} {i} w short = omega (arith, w.within, w.whole, ap length w.here, length-drop (i * 518) bs)
 
 -- where every record lies at home, a number that is not at home is nowhere
 home_other : (count i n : ℕ) (ps : List Pair) → length ps ≤ 1 → home count i ps ≡ true → (i ≢ n % count) → holds n ps ≡ false
@@ -157,10 +194,6 @@ homed_miss count n bs h miss (suc i) l =
     holds_append n (slots i bs) (one (slot i bs)) ∙ cond-false (holds n (slots i bs)) _ _ ih ∙ tail
 
 -- how many slots are in use
-pub length_slots : (n : ℕ) (xs : List ℕ) → length (slots n xs) ≤ n
-length_slots zero xs = omega arith
-length_slots (suc n) xs = omega (arith, length-append (slots n xs) (one (slot n xs)), length_slots n xs, length_one (slot n xs))
-
 pub some_free : (n i : ℕ) (xs : List ℕ) → i < n → length_of (slot i xs) ≡ 0 → length (slots n xs) < n
 some_free zero i xs l e = absurd (omega arith)
 some_free (suc n) i xs l e =
@@ -302,17 +335,6 @@ turned_put bs new i n used homed flag p keeps g free l e is flag_is =
     ])
     (ap in_order now-held ∙ in_order_mid (pair n p) a b free-ab ∙ ap (λ ps. add (pair n p) (in_order ps)) (sym old))
 
--- slots that hold nothing are at home
-home_none : (count n k : ℕ) (bs : List ℕ) → k < n → slots n bs ≡ [] → home count k (one (slot k bs)) ≡ true
-home_none count zero k bs l e = absurd (omega arith)
-home_none count (suc n) k bs l e =
-    let a = length-append (slots n bs) (one (slot n bs)) in
-    let z = ap length e in
-    elim (cases_eq k n) [
-      | inl same ↦ subst (λ j. home count j (one (slot j bs)) ≡ true) (sym same) (ap (home count n) (nil_from_length (one (slot n bs)) (omega arith)))
-      | inr ne ↦ home_none count n k bs (omega arith) (nil_from_length (slots n bs) (omega arith))
-    ]
-
 pub turned_forget : (bs new : List ℕ) (n used : ℕ) (homed : Bool) → distinct (slot_pairs bs) ≡ true → length new ≡ length bs → Short (slot_count bs) new → slots (slot_count bs) new ≡ above n (slot_pairs bs) → used ≡ length (slots (slot_count bs) new) → (homed ≡ true → Homed (slot_count bs) (slot_count bs) new) → Turned bs new used homed (above n (in_order (slot_pairs bs)))
 turned_forget bs new n used homed dist long short e counted homes =
     turned bs new used homed (above n (in_order (slot_pairs bs))) long short
@@ -320,8 +342,24 @@ turned_forget bs new n used homed dist long short e counted homes =
     counted homes
     (ap in_order e ∙ sym (above_in_order n (slot_pairs bs)))
 
-pub turned_empty : (bs new : List ℕ) → length new ≡ length bs → Short (slot_count bs) new → slots (slot_count bs) new ≡ [] → Turned bs new 0 true []
-turned_empty bs new long short e =
-    turned bs new 0 true [] long short (ap distinct e) (ap length (sym e))
-    (λ f k lk. home_none (slot_count bs) (slot_count bs) k new lk e)
-    (ap in_order e)
+-- bytes that are all 0 are free slots
+zero_at : (n i : ℕ) → slice_index (replicate n 0) i ≡ 0
+zero_at n i =
+    elim (cases_lt i n) [
+      | inl l ↦ get_or-replicate n i 0 0 l
+      | inr g ↦ get_or_past (replicate n 0) i 0 (omega (arith, length-replicate {A = ℕ} n 0))
+    ]
+
+length_zeros : (m n : ℕ) → length_of (drop m (replicate n 0)) ≡ 0
+unfolding length_of
+length_zeros m n =
+    let a = get_or-drop m (replicate n 0) 4 0 ∙ zero_at n (m + 4) in
+    let b = get_or-drop m (replicate n 0) 5 0 ∙ zero_at n (m + 5) in omega arith
+
+pub turned_empty : (bs new : List ℕ) → new ≡ replicate (length bs) 0 → Turned bs new 0 true []
+turned_empty bs new zeros =
+    let free : (k : ℕ) → length_of (slot k new) ≡ 0 = λ k. ap (λ xs. length_of (slot k xs)) zeros ∙ length_zeros (k * 518) (length bs) in
+    let none = none_held (slot_count bs) new (λ k l. free k) in
+    turned bs new 0 true [] (ap length zeros ∙ length-replicate (length bs) 0) (λ k l. omega (arith, free k)) (ap distinct none) (ap length (sym none))
+    (λ f k lk. ap (home (slot_count bs) k) (one_free (slot k new) (free k)))
+    (ap in_order none)
