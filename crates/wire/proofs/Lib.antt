@@ -1,7 +1,6 @@
 pub mod Overwrites
 pub mod Words
 pub mod Chosen
-pub mod Missing
 pub mod Lengths
 pub mod Back
 pub mod Forth
