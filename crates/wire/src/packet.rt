@@ -21,7 +21,7 @@ impl TreeId {
 
 // A report of what is held: `flags` lie as in a packet. A report that was read has the positions before `lsn` set and those
 // after `hsn` clear; in any other they may hold anything, and `write` sets them.
-#[derive(Clone, Copy)]
+#[derive(Clone, Copy, PartialEq, Eq, Debug)]
 pub struct Hack {
     pub term: u32,
     pub serial: u32,
@@ -31,7 +31,7 @@ pub struct Hack {
 }
 
 // What a packet says; `P` is the payload of the two that carry one.
-#[derive(Clone, Copy)]
+#[derive(Clone, Copy, PartialEq, Eq, Debug)]
 pub enum Body<P> {
     Data { number: u32, payload: P },
     Retransmission { number: u32, payload: P },
@@ -70,7 +70,7 @@ impl<'a> From<Body<Infallible>> for Body<&'a [u8]> {
 }
 
 // A packet: the header's fields and the body. `addressee` is 0 where the packet is for all.
-#[derive(Clone, Copy)]
+#[derive(Clone, Copy, PartialEq, Eq, Debug)]
 pub struct Message<P> {
     pub tree: TreeId,
     pub stream: u16,
