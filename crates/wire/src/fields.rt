@@ -8,7 +8,9 @@ pub(crate) fn array_at<const N: usize>(bytes: &[u8], at: usize) -> [u8; N]
     requires { at + N ≤ length bytes.now }
     ensures { result ≡ map (λ i. slice_index bytes.now (at + i)) (range_with_len 0 N) }
 {
-    *bytes[at..].first_chunk().unwrap()
+    let mut part = [0; N];
+    part.copy_from_slice(&bytes[at..at + N]);
+    part
 }
 
 pub(crate) fn u16_at(bytes: &[u8], at: usize) -> u16
