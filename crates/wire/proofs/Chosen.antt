@@ -26,3 +26,7 @@ had_room true m n s e f h =
       | inl short ↦ let h' = h ∙ ap (λ b. cond b (Err e) (Ok n)) (lt-ltb m n short) in let z : ◌≡◌ {A = ℕ} 0 1 = cc in absurd (omega arith)
       | inr fits ↦ let h' = h ∙ ap (λ b. cond b (Err e) (Ok n)) (le-ltb m n fits) in (refl, fits, cc)
     ]
+
+pub chosen_ok : {X E : Type 0} (v : Bool) (x y : X) (e : E) → Ok y ≡ cond v (Ok x) (Err e) → (v ≡ true) × (y ≡ x)
+chosen_ok true x y e h = (refl, cc)
+chosen_ok false x y e h = let z : ◌≡◌ {A = ℕ} 0 1 = cc in absurd (omega arith)

@@ -1,14 +1,13 @@
 // Bytes whose header, type and length are those of a packet, and what they mean.
-ghost use Rattle.std.specs.Prelude.{◌≡◌, ◌≤◌, ◌==◌, ◌≢◌, length, slice_index, MatchResult, Err};
-ghost use Rattle.wire.specs.Plain.{plain_body, plain_body_answer, plain_answer};
-ghost use Rattle.wire.specs.Ranges.{body_in_range};
+ghost use Rattle.std.specs.Prelude.{◌≡◌, ◌≤◌, ◌==◌, length, slice_index, MatchResult, Err};
+ghost use Rattle.wire.specs.Plain.{plain_body_answer, plain_answer};
 ghost use Rattle.wire.specs.Types.{number_of};
-ghost use Rattle.wire.specs.Decoding.{header_wrong, type_at, lengths_by_type, expected_length, body_at, ranged_body, ranged_packet, decode};
+ghost use Rattle.wire.specs.Decoding.{header_wrong, type_at, lengths_by_type, expected_length, ranged_body, ranged_packet, decode};
 
 use crate::fields::{array_at, rest_from, u16_at, u32_at};
 use crate::packet::{Body, Message, Packet, TreeId};
 use crate::packet_type::PacketType;
-use crate::ranges::{header_in_range, payload_in_range};
+use crate::ranges::{at_least_one, header_in_range, ranged_highest, ranged_payload, ranged_slot};
 use crate::reading_hack::hack_at;
 use answer::Refusal;
 
@@ -41,14 +40,8 @@ fn length_fits(kind: PacketType, bytes: &[u8]) -> bool
         PacketType::Hack => len >= 38 && len == 38 + 4 * u16_at(bytes, 36) as usize,
         PacketType::JoinConfirm => len == 26,
         PacketType::HeartbeatResponse => len == 24,
-        PacketType::JoinStream
-        | PacketType::JoinAck
-        | PacketType::LeaveStream
-        | PacketType::Heartbeat
-        | PacketType::NullData
-        | PacketType::Eject
-        | PacketType::Eos
-        | PacketType::LeaveConfirm => len == 20,
+        // The others have one field.
+        _ => len == 20,
     }
 }
 
@@ -70,80 +63,55 @@ impl<'a> Framed<'a> {
         Ok(Framed { kind, bytes })
     }
 
-    // Whether the fields of any type but a HACK lie in their ranges. On the numbers: a test of the body once it is made takes
-    // a third longer.
-    fn simple_in_range(self) -> bool
-        requires { self.kind ≢ PacketType.Hack }
-        ensures { result ≡ body_in_range (body_at self.entry.bytes.now) }
-    {
-        let first = u32_at(self.bytes, 16);
-        match self.kind {
-            PacketType::Data | PacketType::Retransmission => {
-                payload_in_range(first, rest_from(self.bytes, 22))
-            }
-            PacketType::Hack => unreachable!(),
-            PacketType::JoinConfirm => {
-                first > 0 && u32_at(self.bytes, 20) > 0 && u16_at(self.bytes, 24) <= 15
-            }
-            PacketType::JoinStream
-            | PacketType::JoinAck
-            | PacketType::LeaveStream
-            | PacketType::Eject
-            | PacketType::HeartbeatResponse
-            | PacketType::LeaveConfirm => first > 0,
-            PacketType::NullData | PacketType::Eos => first < u32::MAX,
-            PacketType::Heartbeat => true,
-        }
-    }
-
-    // The body of any type but a HACK.
-    fn simple_body(self) -> Body<&'a [u8]>
-        requires { self.kind ≢ PacketType.Hack }
-        ensures { plain_body result ≡ body_at self.entry.bytes.now }
-    {
-        let bytes = self.bytes;
-        let first = u32_at(bytes, 16);
-        match self.kind {
-            PacketType::Data => Body::Data {
-                number: first,
-                payload: rest_from(bytes, 22),
-            },
-            PacketType::Retransmission => Body::Retransmission {
-                number: first,
-                payload: rest_from(bytes, 22),
-            },
-            PacketType::Hack => unreachable!(),
-            PacketType::JoinStream => Body::JoinStream { term: first },
-            PacketType::JoinAck => Body::JoinAck { term: first },
-            PacketType::JoinConfirm => Body::JoinConfirm {
-                term: first,
-                start: u32_at(bytes, 20),
-                slot: u16_at(bytes, 24),
-            },
-            PacketType::LeaveStream => Body::LeaveStream { term: first },
-            PacketType::Heartbeat => Body::Heartbeat { clock: first },
-            PacketType::NullData => Body::NullData { highest: first },
-            PacketType::Eject => Body::Eject { term: first },
-            PacketType::Eos => Body::Eos { highest: first },
-            PacketType::HeartbeatResponse => Body::HeartbeatResponse {
-                term: first,
-                clock: u32_at(bytes, 20),
-            },
-            PacketType::LeaveConfirm => Body::LeaveConfirm { term: first },
-        }
-    }
-
     // The body, unless a field is outside its range.
     fn body(self) -> Result<Body<&'a [u8]>, Refusal>
         ensures { plain_body_answer result ≡ ranged_body self.entry.bytes.now }
     {
-        if self.kind == PacketType::Hack {
-            Ok(Body::Hack(hack_at(self.bytes)?))
-        } else if self.simple_in_range() {
-            Ok(self.simple_body())
-        } else {
-            Err(Refusal::OutOfRange)
-        }
+        let bytes = self.bytes;
+        let first = u32_at(bytes, 16);
+        let body = match self.kind {
+            PacketType::Data => Body::Data {
+                number: first,
+                payload: ranged_payload(first, rest_from(bytes, 22))?,
+            },
+            PacketType::Retransmission => Body::Retransmission {
+                number: first,
+                payload: ranged_payload(first, rest_from(bytes, 22))?,
+            },
+            PacketType::Hack => Body::Hack(hack_at(bytes)?),
+            PacketType::JoinStream => Body::JoinStream {
+                term: at_least_one(first)?,
+            },
+            PacketType::JoinAck => Body::JoinAck {
+                term: at_least_one(first)?,
+            },
+            PacketType::JoinConfirm => Body::JoinConfirm {
+                term: at_least_one(first)?,
+                start: at_least_one(u32_at(bytes, 20))?,
+                slot: ranged_slot(u16_at(bytes, 24))?,
+            },
+            PacketType::LeaveStream => Body::LeaveStream {
+                term: at_least_one(first)?,
+            },
+            PacketType::Heartbeat => Body::Heartbeat { clock: first },
+            PacketType::NullData => Body::NullData {
+                highest: ranged_highest(first)?,
+            },
+            PacketType::Eject => Body::Eject {
+                term: at_least_one(first)?,
+            },
+            PacketType::Eos => Body::Eos {
+                highest: ranged_highest(first)?,
+            },
+            PacketType::HeartbeatResponse => Body::HeartbeatResponse {
+                term: at_least_one(first)?,
+                clock: u32_at(bytes, 20),
+            },
+            PacketType::LeaveConfirm => Body::LeaveConfirm {
+                term: at_least_one(first)?,
+            },
+        };
+        Ok(body)
     }
 
     // The packet, unless a field is outside its range.

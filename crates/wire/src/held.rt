@@ -1,13 +1,13 @@
 // What a HACK says of single numbers: which are held, and which are missing.
-ghost use Rattle.std.specs.Prelude.{◌≡◌, ◌-◌, ◌≤◌, min, true, length, ◌==◌, slice_index};
+ghost use Rattle.std.specs.Prelude.{◌≡◌, ◌-◌, ◌≤◌, min, true, false, MatchResult, length, ◌==◌, slice_index};
 ghost use Rattle.wire.specs.Fields.{overwrite};
 ghost use Rattle.wire.specs.Flags.{flag_of, held_by, is_missing, leading_ones, word_from, missing_numbers};
-ghost use Rattle.wire.specs.Ranges.{hack_fields_in_range, hack_in_range};
+ghost use Rattle.answer.specs.declared.Refusal.TheVariants.{OutOfRange};
+ghost use Rattle.wire.specs.Ranges.{hack_in_range};
 ghost use Rattle.wire.specs.Encoding.{write_answer, buffer_after};
 
 use crate::flags::{flag_is_set, leading_ones};
 use crate::packet::Hack;
-use crate::ranges::hack_in_range;
 use crate::span::Span;
 use answer::Refusal;
 
@@ -54,14 +54,15 @@ fn write_missing(hack: &Hack, span: Span, numbers: &mut [u32])
 }
 
 impl Hack {
-    // The numbers from LSN through HSN.
-    pub(crate) fn span(&self) -> Span
-        requires { hack_fields_in_range self.now.term self.now.serial self.now.lsn self.now.hsn ≡ true }
-        ensures { (result.lsn ≡ self.now.lsn) × (result.hsn ≡ self.now.hsn) }
+    // The numbers from LSN through HSN, unless a field is outside its range.
+    pub(crate) fn ranged_span(&self) -> Result<Span, Refusal>
+        ensures { MatchResult result (λ span. (span.lsn ≡ self.now.lsn) × (span.hsn ≡ self.now.hsn) × (hack_in_range self.now ≡ true)) (λ e. (e ≡ OutOfRange) × (hack_in_range self.now ≡ false)) }
     {
-        Span {
-            lsn: self.lsn,
-            hsn: self.hsn,
+        match Span::checked(self.lsn, self.hsn) {
+            Some(span) if self.term > 0 && self.serial > 0 && span.low_flag_clear(self.flags[0]) => {
+                Ok(span)
+            }
+            _ => Err(Refusal::OutOfRange),
         }
     }
 
@@ -97,10 +98,7 @@ impl Hack {
         ensures answer { result ≡ write_answer (hack_in_range self.now) (missing_numbers self.now) numbers.old }
         ensures buffer { numbers.new ≡ buffer_after result (missing_numbers self.now) numbers.old }
     {
-        if !hack_in_range(self) {
-            return Err(Refusal::OutOfRange);
-        }
-        let span = self.span();
+        let span = self.ranged_span()?;
         let count = count_missing(self, span);
         if numbers.len() < count {
             return Err(Refusal::ShortOutput);

@@ -1,5 +1,6 @@
 // A packet as bytes.
-ghost use Rattle.std.specs.Prelude.{◌≡◌, ◌+◌, ◌≤◌, true, ◌++◌, length, take, IfOk, Ok};
+ghost use Rattle.std.specs.Prelude.{◌≡◌, ◌+◌, ◌≤◌, true, ◌++◌, length, take, if◌then◌else◌, IfOk, Ok, Err};
+ghost use Rattle.answer.specs.declared.Refusal.TheVariants.{OutOfRange};
 ghost use Rattle.wire.specs.Fields.{short_bytes, field_bytes, overwrite};
 ghost use Rattle.wire.specs.Laws.{HeaderFits, BodyFits, canonical_packet};
 ghost use Rattle.wire.specs.Plain.{plain_packet, plain_body};
@@ -11,7 +12,7 @@ ghost use Rattle.wire.specs.Decoding.{decode};
 use crate::fields::put;
 use crate::packet::{Body, Packet};
 use crate::packet_type::PacketType;
-use crate::ranges::{body_in_range, header_in_range};
+use crate::ranges::{at_least_one, header_in_range, ranged_highest, ranged_payload, ranged_slot};
 use crate::writing_hack::write_hack;
 use answer::Refusal;
 
@@ -65,25 +66,39 @@ fn header_bytes(packet: &Packet<'_>) -> [u8; 16]
     ]
 }
 
-// How many bytes a body takes.
-fn body_length(body: &Body<&[u8]>) -> usize
-    requires { body_in_range (plain_body body.now) ≡ true }
-    ensures is { result ≡ body_length (plain_body body.now) }
-    ensures bound { result ≤ 518 }
+// How many bytes a body takes, unless a field is outside its range.
+fn ranged_length(body: &Body<&[u8]>) -> Result<usize, Refusal>
+    ensures is { result ≡ (if body_in_range (plain_body body.now) then Ok (body_length (plain_body body.now)) else Err OutOfRange) }
+    ensures bound { IfOk result (λ n. n ≤ 518) }
 {
     match body {
-        Body::Data { payload, .. } | Body::Retransmission { payload, .. } => 6 + payload.len(),
-        Body::Hack(hack) => 22 + 4 * hack.span().word_count() as usize,
-        Body::JoinConfirm { .. } => 10,
-        Body::HeartbeatResponse { .. } => 8,
-        Body::JoinStream { .. }
-        | Body::JoinAck { .. }
-        | Body::LeaveStream { .. }
-        | Body::Heartbeat { .. }
-        | Body::NullData { .. }
-        | Body::Eject { .. }
-        | Body::Eos { .. }
-        | Body::LeaveConfirm { .. } => 4,
+        Body::Data { number, payload } | Body::Retransmission { number, payload } => {
+            Ok(6 + ranged_payload(*number, payload)?.len())
+        }
+        Body::Hack(hack) => Ok(22 + 4 * hack.ranged_span()?.word_count() as usize),
+        Body::JoinConfirm { term, start, slot } => {
+            at_least_one(*term)?;
+            at_least_one(*start)?;
+            ranged_slot(*slot)?;
+            Ok(10)
+        }
+        Body::HeartbeatResponse { term, .. } => {
+            at_least_one(*term)?;
+            Ok(8)
+        }
+        Body::JoinStream { term }
+        | Body::JoinAck { term }
+        | Body::LeaveStream { term }
+        | Body::Eject { term }
+        | Body::LeaveConfirm { term } => {
+            at_least_one(*term)?;
+            Ok(4)
+        }
+        Body::NullData { highest } | Body::Eos { highest } => {
+            ranged_highest(*highest)?;
+            Ok(4)
+        }
+        Body::Heartbeat { .. } => Ok(4),
     }
 }
 
@@ -147,20 +162,14 @@ fn write_header(packet: &Packet<'_>, out: &mut [u8])
     out[0..16].copy_from_slice(&header_bytes(packet));
 }
 
-fn in_range(packet: &Packet<'_>) -> bool
-    ensures { result ≡ packet_in_range (plain_packet packet.now) }
-{
-    header_in_range(packet.stream, packet.writer) && body_in_range(&packet.body)
-}
-
 // What `write` would answer for this packet and a buffer as long as `out`. It writes nothing.
 pub fn check_write(packet: &Packet<'_>, out: &[u8]) -> Result<usize, Refusal>
     ensures { result ≡ write_answer (packet_in_range (plain_packet packet.now)) (encode (plain_packet packet.now)) out.now }
 {
-    if !in_range(packet) {
+    if !header_in_range(packet.stream, packet.writer) {
         return Err(Refusal::OutOfRange);
     }
-    let size = 16 + body_length(&packet.body);
+    let size = 16 + ranged_length(&packet.body)?;
     if out.len() < size {
         return Err(Refusal::ShortOutput);
     }

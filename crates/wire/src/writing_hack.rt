@@ -34,7 +34,10 @@ pub(crate) fn write_hack(hack: &Hack, out: &mut [u8])
     ensures after { out.new ≡ overwrite 16 (hack_bytes hack.now) out.old }
     ensures typed { HackFits hack.now }
 {
-    let span = hack.span();
+    let span = Span {
+        lsn: hack.lsn,
+        hsn: hack.hsn,
+    };
     put(out, 16, hack.term.to_be_bytes());
     put(out, 20, hack.serial.to_be_bytes());
     put(out, 24, hack.lsn.to_be_bytes());
