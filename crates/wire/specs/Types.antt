@@ -1,5 +1,5 @@
--- The numbers of the packets' types. Assumes nothing.
-use Rattle.std.specs.Prelude.{◌≡◌, ℕ, Bool, true, false, ◌||◌, Result, MatchResult, ◌==◌, nat_lt}
+-- The types of packets, by their numbers. Assumes nothing.
+use Rattle.std.specs.Prelude.{◌≡◌, ℕ, Bool, true, false, ◌||◌, List, [], ◌∷◌, Result, MatchResult, ◌==◌, nat_lt}
 use Rattle.answer.specs.declared.Refusal.{Refusal}
 use Rattle.answer.specs.declared.Refusal.TheVariants.{UnknownType}
 use Rattle.wire.specs.declared.packet_type.PacketType.{PacketType}
@@ -27,3 +27,7 @@ type_unknown n = n == 0 || nat_lt 13 n
 -- the result is the type with this number, or a refusal where there is none
 abbrev pub Decodes : ℕ → Result PacketType Refusal → Type 0
 Decodes n r = MatchResult r (λ kind. (number_of kind ≡ n) × (type_unknown n ≡ false)) (λ e. (e ≡ UnknownType) × (type_unknown n ≡ true))
+
+-- by type, from 0 on, which is none: the length of a packet whose counts are 0
+abbrev pub least_lengths : List ℕ
+least_lengths = 0 ∷ 22 ∷ 22 ∷ 38 ∷ 20 ∷ 20 ∷ 26 ∷ 20 ∷ 20 ∷ 20 ∷ 20 ∷ 20 ∷ 24 ∷ 20 ∷ []

@@ -1,7 +1,7 @@
 // Bytes whose header, type and length are those of a packet, and what they mean.
 ghost use Rattle.std.specs.Prelude.{◌≡◌, ◌≤◌, ◌==◌, length, slice_index, MatchResult, Err};
 ghost use Rattle.wire.specs.Plain.{plain_body_answer, plain_answer};
-ghost use Rattle.wire.specs.Types.{number_of};
+ghost use Rattle.wire.specs.Types.{number_of, least_lengths};
 ghost use Rattle.wire.specs.Decoding.{header_wrong, type_at, lengths_by_type, expected_length, ranged_body, ranged_packet, decode};
 
 use crate::fields::{array_at, rest_from, u16_at, u32_at};
@@ -27,22 +27,34 @@ fn header_wrong(bytes: &[u8]) -> bool
     bytes[0] != 32 || bytes[14] != 0 || bytes[15] != 0
 }
 
+// How long a packet of a type is where its counts are 0. Apart from the counts, so that it becomes a table: a jump by type
+// takes longer.
+fn least_length(kind: PacketType) -> usize
+    ensures { result ≡ slice_index least_lengths (number_of kind) }
+{
+    match kind {
+        PacketType::Data | PacketType::Retransmission => 22,
+        PacketType::Hack => 38,
+        PacketType::JoinConfirm => 26,
+        PacketType::HeartbeatResponse => 24,
+        _ => 20,
+    }
+}
+
 // Whether the length is the one that the type and its counts ask for.
 fn length_fits(kind: PacketType, bytes: &[u8]) -> bool
-    requires { 16 ≤ length bytes.now }
     ensures { result ≡ (length bytes.now == slice_index (lengths_by_type bytes.now) (number_of kind)) }
 {
-    let len = bytes.len();
-    match kind {
-        PacketType::Data | PacketType::Retransmission => {
-            len >= 22 && len == 22 + u16_at(bytes, 20) as usize
-        }
-        PacketType::Hack => len >= 38 && len == 38 + 4 * u16_at(bytes, 36) as usize,
-        PacketType::JoinConfirm => len == 26,
-        PacketType::HeartbeatResponse => len == 24,
-        // The others have one field.
-        _ => len == 20,
+    let least = least_length(kind);
+    if bytes.len() < least {
+        return false;
     }
+    let counted = match kind {
+        PacketType::Data | PacketType::Retransmission => u16_at(bytes, 20) as usize,
+        PacketType::Hack => 4 * u16_at(bytes, 36) as usize,
+        _ => 0,
+    };
+    bytes.len() == least + counted
 }
 
 impl<'a> Framed<'a> {
