@@ -10,3 +10,4 @@ pub mod HeldWords
 pub mod Lows
 pub mod Decoded
 pub mod MissingWords
+pub mod Trees

@@ -5,7 +5,7 @@ ghost use Rattle.wire.specs.Plain.{no_payload, plain_body, plain_packet, bare_pa
 use std::convert::Infallible;
 
 // Which tree a packet belongs to.
-#[derive(Clone, Copy, PartialEq, Eq, Debug)]
+#[derive(Clone, Copy, Debug, PartialEq, Eq)]
 pub struct TreeId(pub [u8; 6]);
 
 impl TreeId {
