@@ -5,31 +5,12 @@ use Rattle.std.proofs.lemmas.Bool.{cases_lt, lt-ltb, le-ltb}
 pub past : {X : Type 0} (t₁ t₂ t₃ t₄ : Bool) (e₁ e₂ e₃ e₄ r : X) → t₁ ≡ false → t₂ ≡ false → t₃ ≡ false → t₄ ≡ false → cond t₁ e₁ (cond t₂ e₂ (cond t₃ e₃ (cond t₄ e₄ r))) ≡ r
 past t₁ t₂ t₃ t₄ e₁ e₂ e₃ e₄ r h₁ h₂ h₃ h₄ = rw (h₁, h₂, h₃, h₄)
 
--- an answer that a test allows, made into a larger one under one test more
-pub no_header : {X : Type 0} (a h v : Bool) (x : X) → h ≡ false → None ≡ cond (a && (h && v)) (Some x) None
-no_header true false v x e = refl
-no_header false false v x e = refl
-no_header a true v x e = grind arith
-
-pub some_larger : {X Y : Type 0} (f : X → Y) (a h v : Bool) (x y : X) → h ≡ true → Some y ≡ cond (a && v) (Some x) None → Some (f y) ≡ cond (a && (h && v)) (Some (f x)) None
-some_larger f true true true x y e p = ap (λ z. Some (f z)) (grind arith)
-some_larger f true true false x y e p = grind arith
-some_larger f false true v x y e p = grind arith
-some_larger f a false v x y e p = grind arith
-
-pub none_larger : {X Y : Type 0} (f : X → Y) (a h v : Bool) (x : X) → h ≡ true → None ≡ cond (a && v) (Some x) None → None ≡ cond (a && (h && v)) (Some (f x)) None
-none_larger f true true true x e p = grind arith
-none_larger f true true false x e p = refl
-none_larger f false true v x e p = refl
-none_larger f a false v x e p = grind arith
-
-pub some_ok : {X E : Type 0} (v : Bool) (x y : X) (e : E) → Some y ≡ cond v (Some x) None → Ok y ≡ cond v (Ok x) (Err e)
-some_ok true x y e p = ap Ok (grind arith)
-some_ok false x y e p = grind arith
-
-pub none_err : {X E : Type 0} (v : Bool) (x : X) (e : E) → None ≡ cond v (Some x) None → Err e ≡ cond v (Ok x) (Err e)
-none_err true x e p = grind arith
-none_err false x e p = refl
+-- a refusal under fewer tests is one under more
+pub err_larger : {X Y E : Type 0} (a h v : Bool) (x : X) (y : Y) (e d : E) → h ≡ true → Err d ≡ cond (a && v) (Ok x) (Err e) → Err d ≡ cond (a && (h && v)) (Ok y) (Err e)
+err_larger true true true x y e d k p = grind arith
+err_larger true true false x y e d k p = ap Err (grind arith)
+err_larger false true v x y e d k p = ap Err (grind arith)
+err_larger a false v x y e d k p = grind arith
 
 pub no_room : {E : Type 0} (v : Bool) (m n : ℕ) (e f : E) → v ≡ true → m < n → Err e ≡ cond v (cond (ltb m n) (Err e) (Ok n)) (Err f)
 no_room v m n e f h l = rw (h, lt-ltb m n l)
@@ -45,3 +26,7 @@ had_room true m n s e f h =
       | inl short ↦ let h' = h ∙ ap (λ b. cond b (Err e) (Ok n)) (lt-ltb m n short) in let z : ◌≡◌ {A = ℕ} 0 1 = cc in absurd (omega arith)
       | inr fits ↦ let h' = h ∙ ap (λ b. cond b (Err e) (Ok n)) (le-ltb m n fits) in (refl, fits, cc)
     ]
+
+pub chosen_ok : {X E : Type 0} (v : Bool) (x y : X) (e : E) → Ok y ≡ cond v (Ok x) (Err e) → (v ≡ true) × (y ≡ x)
+chosen_ok true x y e h = (refl, cc)
+chosen_ok false x y e h = let z : ◌≡◌ {A = ℕ} 0 1 = cc in absurd (omega arith)

@@ -1,7 +1,6 @@
 pub mod Overwrites
 pub mod Words
 pub mod Chosen
-pub mod Missing
 pub mod Lengths
 pub mod Back
 pub mod Forth
@@ -11,3 +10,4 @@ pub mod HeldWords
 pub mod Lows
 pub mod Decoded
 pub mod MissingWords
+pub mod Trees

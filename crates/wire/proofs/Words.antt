@@ -1,9 +1,9 @@
 -- Flags in a word: which positions `trimmed` sets, clears and keeps. Assumes nothing.
-use Rattle.std.proofs.Common.{◌≡◌, ℕ, zero, suc, ◌+◌, ◌-◌, ◌*◌, ◌/◌, ◌%◌, ◌^◌, ◌<◌, ◌≤◌, min, max, Bool, true, cond, ◌&&◌, eqb, ltb, ◌⊎◌, sym, refl, ap, ◌∙◌, inl, inr, arith}
+use Rattle.std.proofs.Common.{◌≡◌, ℕ, zero, suc, ◌+◌, ◌-◌, ◌*◌, ◌/◌, ◌%◌, ◌^◌, ◌<◌, ◌≤◌, min, max, Bool, true, cond, not, ◌&&◌, eqb, ltb, ◌⊎◌, sym, refl, ap, ◌∙◌, inl, inr, arith}
 use lib.Bits.{bit_and, bit_or, and_step, or_step, and_shr, or_shr, and_le_r}
 use Rattle.std.proofs.lemmas.Nat.{div-mul-add, mod-mul-add, pow_pos, pow-add, shr-shr, mod_below, div_below}
 use Rattle.std.proofs.lemmas.Bool.{cases_lt, lt-ltb, le-ltb}
-use Rattle.std.proofs.lemmas.Bool.Decides.{Decides-eqb, Decides-below_and}
+use Rattle.std.proofs.lemmas.Bool.Decides.{Decides-eqb, Decides-below_and, nat_tests}
 use Rattle.wire.specs.Flags.{flag_at, leading_ones, trimmed, positions_in, canonical_word, Canonical}
 
 -- a test that passes at each number below n
@@ -127,3 +127,10 @@ canonical_flags lsn hsn i w = record {
 pub flag_none : (j : ℕ) → flag_at 0 j ≡ 0
 unfolding flag_at
 flag_none j = let e : 0 / 2 ^ (31 - j) ≡ 0 = omega (arith, div_below 0 (2 ^ (31 - j)) 1 (pow_pos (31 - j)) (omega (arith, pow_pos (31 - j)))) in ap (λ n. n % 2) e
+
+-- a flag that is not set is 0
+pub flag_clear : (w j : ℕ) → j < 32 → not (ltb j 32 && eqb (flag_at w j) 1) ≡ eqb (flag_at w j) 0
+flag_clear w j h = ap (λ b. not (b && eqb (flag_at w j) 1)) (lt-ltb j 32 h) ∙ turned (flag_at w j) (flag_two w j)
+  where
+    turned : (f : ℕ) → f < 2 → not (eqb f 1) ≡ eqb f 0
+    turned f l = grind (arith, nat_tests)

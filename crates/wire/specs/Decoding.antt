@@ -5,7 +5,7 @@ use Rattle.answer.specs.declared.Refusal.TheVariants.{ShortPacket, BadHeader, Un
 use Rattle.wire.specs.Encoding.{six_bytes}
 use Rattle.wire.specs.Fields.{short_at, field_at}
 use Rattle.wire.specs.Flags.{word_count, canonical_words}
-use Rattle.wire.specs.Ranges.{packet_in_range}
+use Rattle.wire.specs.Ranges.{body_in_range, packet_in_range}
 use Rattle.wire.specs.declared.packet.Body.{Body}
 use Rattle.wire.specs.declared.packet.Body.TheVariants.{Data, Retransmission, Hack as HackOf, JoinStream, JoinAck, JoinConfirm, LeaveStream, Heartbeat, NullData, Eject, Eos, HeartbeatResponse, LeaveConfirm}
 use Rattle.wire.specs.declared.packet.Hack.{Hack}
@@ -66,11 +66,17 @@ header_wrong b = not (slice_index b 0 == 32) || (not (slice_index b 14 == 0) || 
 abbrev pub type_wrong : List ℕ → Bool
 type_wrong b = type_at b == 0 || nat_lt 13 (type_at b)
 
+-- the body, or the packet, unless a count or a field is wrong
+abbrev pub ranged_body : List ℕ → Result (Body (List ℕ)) Refusal
+ranged_body b = cond (counts_agree b && body_in_range (body_at b)) (Ok (body_at b)) (Err OutOfRange)
+
+abbrev pub ranged_packet : List ℕ → Result (Message (List ℕ)) Refusal
+ranged_packet b = cond (counts_agree b && packet_in_range (packet_at b)) (Ok (packet_at b)) (Err OutOfRange)
+
 -- the packet that bytes mean, or the first refusal that applies
 abbrev pub decode : List ℕ → Result (Message (List ℕ)) Refusal
 decode b =
     cond (nat_lt (length b) 16) (Err ShortPacket)
     (cond (header_wrong b) (Err BadHeader)
     (cond (type_wrong b) (Err UnknownType)
-    (cond (not (length b == expected_length b)) (Err LengthMismatch)
-    (cond (counts_agree b && packet_in_range (packet_at b)) (Ok (packet_at b)) (Err OutOfRange)))))
+    (cond (not (length b == expected_length b)) (Err LengthMismatch) (ranged_packet b))))

@@ -1,5 +1,5 @@
 -- A packet told by what its payload holds, and not by where it lies. Assumes nothing.
-use Rattle.std.specs.Prelude.{ℕ, List, Some, None, Ok, Err, Option, Result}
+use Rattle.std.specs.Prelude.{ℕ, List, Ok, Err, Result}
 use Rattle.std.specs.Borrow.{Bor}
 use Rattle.std.specs.declared.convert.Infallible.{Infallible}
 use Rattle.answer.specs.declared.Refusal.{Refusal}
@@ -43,10 +43,6 @@ abbrev pub plain_answer : Result (Message (Bor (List ℕ))) Refusal → Result (
 plain_answer (Ok p) = Ok (plain_packet p)
 plain_answer (Err e) = Err e
 
-abbrev pub plain_some_body : Option (Body (Bor (List ℕ))) → Option (Body (List ℕ))
-plain_some_body (Some b) = Some (plain_body b)
-plain_some_body None = None
-
-abbrev pub plain_some_packet : Option (Message (Bor (List ℕ))) → Option (Message (List ℕ))
-plain_some_packet (Some p) = Some (plain_packet p)
-plain_some_packet None = None
+abbrev pub plain_body_answer : Result (Body (Bor (List ℕ))) Refusal → Result (Body (List ℕ)) Refusal
+plain_body_answer (Ok b) = Ok (plain_body b)
+plain_body_answer (Err e) = Err e

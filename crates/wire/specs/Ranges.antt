@@ -15,8 +15,11 @@ abbrev pub payload_in_range : ℕ → ℕ → Bool
 payload_in_range n size = at_least_one n && (nat_lt n 4294967295 && (at_least_one size && nat_le size 512))
 
 -- HSN lies from LSN - 1 to LSN + 255, and is no larger than a payload's number
+abbrev pub span_in_range : ℕ → ℕ → Bool
+span_in_range lsn hsn = at_least_one lsn && (nat_lt hsn 4294967295 && (nat_le lsn (hsn + 1) && nat_le hsn (lsn + 255)))
+
 abbrev pub hack_fields_in_range : ℕ → ℕ → ℕ → ℕ → Bool
-hack_fields_in_range term serial lsn hsn = at_least_one term && (at_least_one serial && (at_least_one lsn && (nat_lt hsn 4294967295 && (nat_le lsn (hsn + 1) && nat_le hsn (lsn + 255)))))
+hack_fields_in_range term serial lsn hsn = at_least_one term && (at_least_one serial && span_in_range lsn hsn)
 
 -- the flag of LSN, where there is one, is 0
 abbrev pub low_flag_clear : ℕ → ℕ → ℕ → Bool

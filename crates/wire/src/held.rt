@@ -1,14 +1,22 @@
 // What a HACK says of single numbers: which are held, and which are missing.
-ghost use Rattle.std.specs.Prelude.{◌≡◌, ◌-◌, ◌≤◌, min, true, length, ◌==◌, slice_index};
+ghost use Rattle.std.specs.Prelude.{◌≡◌, ◌-◌, ◌≤◌, min, true, false, MatchResult, length, ◌==◌, slice_index};
 ghost use Rattle.wire.specs.Fields.{overwrite};
 ghost use Rattle.wire.specs.Flags.{flag_of, held_by, is_missing, leading_ones, word_from, missing_numbers};
-ghost use Rattle.wire.specs.Ranges.{hack_fields_in_range, hack_in_range};
+ghost use Rattle.answer.specs.declared.Refusal.TheVariants.{OutOfRange};
+ghost use Rattle.wire.specs.Ranges.{hack_in_range};
 ghost use Rattle.wire.specs.Encoding.{write_answer, buffer_after};
 
-use crate::flags::leading_ones;
+use crate::flags::{flag_is_set, leading_ones};
 use crate::packet::Hack;
-use crate::ranges::hack_in_range;
+use crate::span::Span;
 use answer::Refusal;
+
+// Word `i` of the nine, and 0 past these.
+fn word_at(flags: [u32; 9], i: usize) -> u32
+    ensures { result ≡ slice_index flags i }
+{
+    flags.get(i).copied().unwrap_or(0)
+}
 
 // Whether `number`, at or above `lsn`, has its flag set.
 fn is_flagged(lsn: u32, flags: [u32; 9], number: u32) -> bool
@@ -16,34 +24,7 @@ fn is_flagged(lsn: u32, flags: [u32; 9], number: u32) -> bool
     ensures { result ≡ (flag_of lsn flags number == 1) }
 {
     let index = ((lsn % 32) as usize + (number - lsn) as usize) / 32;
-    index < 9 && (flags[index] >> (31 - number % 32)) & 1 == 1
-}
-
-fn count_missing(hack: &Hack) -> usize
-    requires { hack_fields_in_range hack.now.term hack.now.serial hack.now.lsn hack.now.hsn ≡ true }
-    ensures { result ≡ length (missing_numbers hack.now) }
-{
-    let mut count = 0;
-    for number in hack.lsn..hack.hsn + 1 {
-        if !hack.holds(number) {
-            count += 1;
-        }
-    }
-    count
-}
-
-fn write_missing(hack: &Hack, numbers: &mut [u32])
-    requires ranged { hack_fields_in_range hack.now.term hack.now.serial hack.now.lsn hack.now.hsn ≡ true }
-    requires room { length (missing_numbers hack.now) ≤ length numbers.old }
-    ensures { numbers.new ≡ overwrite 0 (missing_numbers hack.now) numbers.old }
-{
-    let mut count = 0;
-    for number in hack.lsn..hack.hsn + 1 {
-        if !hack.holds(number) {
-            numbers[count] = number;
-            count += 1;
-        }
-    }
+    flag_is_set(word_at(flags, index), number % 32)
 }
 
 // The word whose first positions, as many as there are numbers from `from` on that lie below `to`, are set.
@@ -53,14 +34,38 @@ fn ones_below(to: u64, from: u64) -> u32
     leading_ones(to.saturating_sub(from).min(32) as u32)
 }
 
-// Word `i` of the nine, and 0 past these.
-fn word_at(flags: [u32; 9], i: usize) -> u32
-    ensures { result ≡ slice_index flags i }
+#[tactic(auto, unfolding(crate::specs::Flags::missing_numbers))]
+fn count_missing(hack: &Hack, span: Span) -> usize
+    requires { (span.lsn ≡ hack.now.lsn) × (span.hsn ≡ hack.now.hsn) }
+    ensures { result ≡ length (missing_numbers hack.now) }
 {
-    if i < 9 { flags[i] } else { 0 }
+    span.numbers().filter(|number| !hack.holds(*number)).count()
+}
+
+fn write_missing(hack: &Hack, span: Span, numbers: &mut [u32])
+    requires same { (span.lsn ≡ hack.now.lsn) × (span.hsn ≡ hack.now.hsn) }
+    requires room { length (missing_numbers hack.now) ≤ length numbers.old }
+    ensures { numbers.new ≡ overwrite 0 (missing_numbers hack.now) numbers.old }
+{
+    let missing = span.numbers().filter(|number| !hack.holds(*number));
+    for (i, number) in missing.enumerate() {
+        numbers[i] = number;
+    }
 }
 
 impl Hack {
+    // The numbers from LSN through HSN, unless a field is outside its range.
+    pub(crate) fn ranged_span(&self) -> Result<Span, Refusal>
+        ensures { MatchResult result (λ span. (span.lsn ≡ self.now.lsn) × (span.hsn ≡ self.now.hsn) × (hack_in_range self.now ≡ true)) (λ e. (e ≡ OutOfRange) × (hack_in_range self.now ≡ false)) }
+    {
+        match Span::checked(self.lsn, self.hsn) {
+            Some(span) if self.term > 0 && self.serial > 0 && span.low_flag_clear(self.flags[0]) => {
+                Ok(span)
+            }
+            _ => Err(Refusal::OutOfRange),
+        }
+    }
+
     // The flags of the 32 numbers from 32 × `block` on, the first at the highest bit: set where the report says that the number is held.
     pub fn word(&self, block: u32) -> u32
         ensures { result ≡ word_from (held_by self.now) block }
@@ -93,14 +98,12 @@ impl Hack {
         ensures answer { result ≡ write_answer (hack_in_range self.now) (missing_numbers self.now) numbers.old }
         ensures buffer { numbers.new ≡ buffer_after result (missing_numbers self.now) numbers.old }
     {
-        if !hack_in_range(self) {
-            return Err(Refusal::OutOfRange);
-        }
-        let count = count_missing(self);
+        let span = self.ranged_span()?;
+        let count = count_missing(self, span);
         if numbers.len() < count {
             return Err(Refusal::ShortOutput);
         }
-        write_missing(self, numbers);
+        write_missing(self, span, numbers);
         Ok(count)
     }
 }

@@ -1,14 +1,11 @@
 // What a packet holds: its header, and one of thirteen bodies.
-ghost use Rattle.std.specs.Prelude.{◌≡◌, length, Decides, bytes_eq};
-ghost use Rattle.std.specs.Cmp.Rules.{comparing};
-ghost use Rattle.std.proofs.Common.{rules};
-ghost use Rattle.std.specs.Cmp.{partial_equiv_from_equiv};
-ghost use Rattle.wire.specs.Plain.{plain_packet, bare_packet};
+ghost use Rattle.std.specs.Prelude.{◌≡◌, length};
+ghost use Rattle.wire.specs.Plain.{no_payload, plain_body, plain_packet, bare_packet, map_body};
 
 use std::convert::Infallible;
 
 // Which tree a packet belongs to.
-#[derive(Clone, Copy)]
+#[derive(Clone, Copy, Debug, PartialEq, Eq)]
 pub struct TreeId(pub [u8; 6]);
 
 impl TreeId {
@@ -22,33 +19,9 @@ impl TreeId {
     }
 }
 
-fn same_bytes(a: &[u8; 6], b: &[u8; 6]) -> bool
-    ensures decides { Decides result (a.now ≡ b.now) }
-    ensures is { result ≡ bytes_eq a.now b.now }
-{
-    a == b
-}
-
-impl PartialEq for TreeId {
-    ghost eq = { λ x y. bytes_eq x.0 y.0 };
-
-    ghost laws = { partial_equiv_from_equiv (Prim.search (comparing, rules)) };
-
-    fn eq(&self, other: &TreeId) -> bool
-        ensures decides { Decides result (self.now.0 ≡ other.now.0) }
-        ensures is { result ≡ bytes_eq self.now.0 other.now.0 }
-    {
-        same_bytes(&self.0, &other.0)
-    }
-}
-
-impl Eq for TreeId {
-    ghost laws = { Prim.search (comparing, rules) };
-}
-
 // A report of what is held: `flags` lie as in a packet. A report that was read has the positions before `lsn` set and those
 // after `hsn` clear; in any other they may hold anything, and `write` sets them.
-#[derive(Clone, Copy)]
+#[derive(Clone, Copy, PartialEq, Eq, Debug)]
 pub struct Hack {
     pub term: u32,
     pub serial: u32,
@@ -58,7 +31,7 @@ pub struct Hack {
 }
 
 // What a packet says; `P` is the payload of the two that carry one.
-#[derive(Clone, Copy)]
+#[derive(Clone, Copy, PartialEq, Eq, Debug)]
 pub enum Body<P> {
     Data { number: u32, payload: P },
     Retransmission { number: u32, payload: P },
@@ -75,8 +48,29 @@ pub enum Body<P> {
     LeaveConfirm { term: u32 },
 }
 
+// A body with no payload is one of any packet.
+impl<'a> From<Body<Infallible>> for Body<&'a [u8]> {
+    ghost from_gives = { λ bare body. plain_body body ≡ map_body no_payload (λ h. h) bare };
+
+    fn from(bare: Body<Infallible>) -> Body<&'a [u8]> {
+        match bare {
+            Body::Hack(hack) => Body::Hack(hack),
+            Body::JoinStream { term } => Body::JoinStream { term },
+            Body::JoinAck { term } => Body::JoinAck { term },
+            Body::JoinConfirm { term, start, slot } => Body::JoinConfirm { term, start, slot },
+            Body::LeaveStream { term } => Body::LeaveStream { term },
+            Body::Heartbeat { clock } => Body::Heartbeat { clock },
+            Body::NullData { highest } => Body::NullData { highest },
+            Body::Eject { term } => Body::Eject { term },
+            Body::Eos { highest } => Body::Eos { highest },
+            Body::HeartbeatResponse { term, clock } => Body::HeartbeatResponse { term, clock },
+            Body::LeaveConfirm { term } => Body::LeaveConfirm { term },
+        }
+    }
+}
+
 // A packet: the header's fields and the body. `addressee` is 0 where the packet is for all.
-#[derive(Clone, Copy)]
+#[derive(Clone, Copy, PartialEq, Eq, Debug)]
 pub struct Message<P> {
     pub tree: TreeId,
     pub stream: u16,
@@ -99,25 +93,12 @@ impl<'a> Message<&'a [u8]> {
     ) -> Packet<'a>
         ensures { plain_packet result ≡ bare_packet tree stream writer addressee body }
     {
-        let body = match body {
-            Body::Hack(hack) => Body::Hack(hack),
-            Body::JoinStream { term } => Body::JoinStream { term },
-            Body::JoinAck { term } => Body::JoinAck { term },
-            Body::JoinConfirm { term, start, slot } => Body::JoinConfirm { term, start, slot },
-            Body::LeaveStream { term } => Body::LeaveStream { term },
-            Body::Heartbeat { clock } => Body::Heartbeat { clock },
-            Body::NullData { highest } => Body::NullData { highest },
-            Body::Eject { term } => Body::Eject { term },
-            Body::Eos { highest } => Body::Eos { highest },
-            Body::HeartbeatResponse { term, clock } => Body::HeartbeatResponse { term, clock },
-            Body::LeaveConfirm { term } => Body::LeaveConfirm { term },
-        };
         Message {
             tree,
             stream,
             writer,
             addressee,
-            body,
+            body: Body::from(body),
         }
     }
 }

@@ -1,10 +1,9 @@
-// Which fields lie in their ranges.
-ghost use Rattle.std.specs.Prelude.{◌≡◌, length};
-ghost use Rattle.wire.specs.Plain.{plain_body};
-ghost use Rattle.wire.specs.Ranges.{body_in_range, hack_fields_in_range, hack_in_range, header_in_range, payload_in_range};
+// Fields, where they lie in their ranges.
+ghost use Rattle.std.specs.Prelude.{◌≡◌, length, nat_le, nat_lt, true, false, if◌then◌else◌, Ok, Err, MatchResult};
+ghost use Rattle.answer.specs.declared.Refusal.TheVariants.{OutOfRange};
+ghost use Rattle.wire.specs.Ranges.{at_least_one, header_in_range, payload_in_range};
 
-use crate::flags::low_flag_clear;
-use crate::packet::{Body, Hack};
+use answer::Refusal;
 
 pub(crate) fn header_in_range(stream: u16, writer: u16) -> bool
     ensures { result ≡ header_in_range stream writer }
@@ -12,46 +11,45 @@ pub(crate) fn header_in_range(stream: u16, writer: u16) -> bool
     stream >= 32768 && writer > 0
 }
 
-pub(crate) fn payload_in_range(number: u32, payload: &[u8]) -> bool
-    ensures { result ≡ payload_in_range number (length payload.now) }
+// A term, a start and the like.
+pub(crate) fn at_least_one(field: u32) -> Result<u32, Refusal>
+    ensures { result ≡ (if at_least_one field then Ok field else Err OutOfRange) }
 {
-    number > 0 && number < u32::MAX && payload.len() > 0 && payload.len() <= 512
+    if field > 0 {
+        Ok(field)
+    } else {
+        Err(Refusal::OutOfRange)
+    }
 }
 
-pub(crate) fn hack_fields_in_range(term: u32, serial: u32, lsn: u32, hsn: u32) -> bool
-    ensures { result ≡ hack_fields_in_range term serial lsn hsn }
+// The highest number of a stream, which may be 0.
+pub(crate) fn ranged_highest(field: u32) -> Result<u32, Refusal>
+    ensures { result ≡ (if nat_lt field 4294967295 then Ok field else Err OutOfRange) }
 {
-    term > 0
-        && serial > 0
-        && lsn > 0
-        && hsn < u32::MAX
-        && lsn <= hsn + 1
-        && (hsn <= lsn || hsn - lsn <= 255)
+    if field < u32::MAX {
+        Ok(field)
+    } else {
+        Err(Refusal::OutOfRange)
+    }
 }
 
-pub(crate) fn hack_in_range(hack: &Hack) -> bool
-    ensures { result ≡ hack_in_range hack.now }
+pub(crate) fn ranged_slot(field: u16) -> Result<u16, Refusal>
+    ensures { result ≡ (if nat_le field 15 then Ok field else Err OutOfRange) }
 {
-    hack_fields_in_range(hack.term, hack.serial, hack.lsn, hack.hsn)
-        && (hack.hsn < hack.lsn || low_flag_clear(hack.lsn, hack.flags[0]))
+    if field <= 15 {
+        Ok(field)
+    } else {
+        Err(Refusal::OutOfRange)
+    }
 }
 
-pub(crate) fn body_in_range(body: &Body<&[u8]>) -> bool
-    ensures { result ≡ body_in_range (plain_body body.now) }
+// The payload of the record with a number, where both lie in their ranges.
+pub(crate) fn ranged_payload(number: u32, payload: &[u8]) -> Result<&[u8], Refusal>
+    ensures { MatchResult result (λ p. (p.now ≡ payload.now) × (payload_in_range number (length payload.now) ≡ true)) (λ e. (e ≡ OutOfRange) × (payload_in_range number (length payload.now) ≡ false)) }
 {
-    match body {
-        Body::Data { number, payload } => payload_in_range(*number, payload),
-        Body::Retransmission { number, payload } => payload_in_range(*number, payload),
-        Body::Hack(hack) => hack_in_range(hack),
-        Body::JoinStream { term } => *term > 0,
-        Body::JoinAck { term } => *term > 0,
-        Body::JoinConfirm { term, start, slot } => *term > 0 && *start > 0 && *slot <= 15,
-        Body::LeaveStream { term } => *term > 0,
-        Body::Heartbeat { clock: _ } => true,
-        Body::NullData { highest } => *highest < u32::MAX,
-        Body::Eject { term } => *term > 0,
-        Body::Eos { highest } => *highest < u32::MAX,
-        Body::HeartbeatResponse { term, clock: _ } => *term > 0,
-        Body::LeaveConfirm { term } => *term > 0,
+    if number > 0 && number < u32::MAX && payload.len() > 0 && payload.len() <= 512 {
+        Ok(payload)
+    } else {
+        Err(Refusal::OutOfRange)
     }
 }

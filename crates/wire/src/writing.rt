@@ -1,47 +1,39 @@
 // A packet as bytes.
-ghost use Rattle.std.specs.Prelude.{◌≡◌, ◌+◌, ◌≤◌, true, ◌++◌, length, take, IfOk, Ok};
+ghost use Rattle.std.specs.Prelude.{◌≡◌, ◌+◌, ◌≤◌, true, ◌++◌, length, take, if◌then◌else◌, IfOk, Ok, Err};
+ghost use Rattle.answer.specs.declared.Refusal.TheVariants.{OutOfRange};
 ghost use Rattle.wire.specs.Fields.{short_bytes, field_bytes, overwrite};
 ghost use Rattle.wire.specs.Laws.{HeaderFits, BodyFits, canonical_packet};
 ghost use Rattle.wire.specs.Plain.{plain_packet, plain_body};
 ghost use Rattle.wire.specs.Ranges.{packet_in_range, body_in_range};
+ghost use Rattle.wire.specs.Types.{number_of};
 ghost use Rattle.wire.specs.Encoding.{type_of, header_bytes, body_bytes, body_length, payload_bytes, encode, write_answer, buffer_after};
 ghost use Rattle.wire.specs.Decoding.{decode};
 
-use crate::fields::{put_u16, put_u32};
-use crate::flags::word_count;
+use crate::fields::put;
 use crate::packet::{Body, Packet};
-use crate::ranges::{body_in_range, header_in_range};
+use crate::packet_type::PacketType;
+use crate::ranges::{at_least_one, header_in_range, ranged_highest, ranged_payload, ranged_slot};
 use crate::writing_hack::write_hack;
 use answer::Refusal;
 
-// The number of a body's type.
-fn type_of(body: &Body<&[u8]>) -> u8
-    ensures { result ≡ type_of (plain_body body.now) }
+// The type of a body.
+fn type_of(body: &Body<&[u8]>) -> PacketType
+    ensures { number_of result ≡ type_of (plain_body body.now) }
 {
     match body {
-        Body::Data {
-            number: _,
-            payload: _,
-        } => 1,
-        Body::Retransmission {
-            number: _,
-            payload: _,
-        } => 2,
-        Body::Hack(_) => 3,
-        Body::JoinStream { term: _ } => 4,
-        Body::JoinAck { term: _ } => 5,
-        Body::JoinConfirm {
-            term: _,
-            start: _,
-            slot: _,
-        } => 6,
-        Body::LeaveStream { term: _ } => 7,
-        Body::Heartbeat { clock: _ } => 8,
-        Body::NullData { highest: _ } => 9,
-        Body::Eject { term: _ } => 10,
-        Body::Eos { highest: _ } => 11,
-        Body::HeartbeatResponse { term: _, clock: _ } => 12,
-        Body::LeaveConfirm { term: _ } => 13,
+        Body::Data { .. } => PacketType::Data,
+        Body::Retransmission { .. } => PacketType::Retransmission,
+        Body::Hack(_) => PacketType::Hack,
+        Body::JoinStream { .. } => PacketType::JoinStream,
+        Body::JoinAck { .. } => PacketType::JoinAck,
+        Body::JoinConfirm { .. } => PacketType::JoinConfirm,
+        Body::LeaveStream { .. } => PacketType::LeaveStream,
+        Body::Heartbeat { .. } => PacketType::Heartbeat,
+        Body::NullData { .. } => PacketType::NullData,
+        Body::Eject { .. } => PacketType::Eject,
+        Body::Eos { .. } => PacketType::Eos,
+        Body::HeartbeatResponse { .. } => PacketType::HeartbeatResponse,
+        Body::LeaveConfirm { .. } => PacketType::LeaveConfirm,
     }
 }
 
@@ -56,7 +48,7 @@ fn header_bytes(packet: &Packet<'_>) -> [u8; 16]
     let addressee = packet.addressee.to_be_bytes();
     [
         32,
-        type_of(&packet.body),
+        type_of(&packet.body).number(),
         tree[0],
         tree[1],
         tree[2],
@@ -74,30 +66,39 @@ fn header_bytes(packet: &Packet<'_>) -> [u8; 16]
     ]
 }
 
-// How many bytes a body takes.
-fn body_length(body: &Body<&[u8]>) -> usize
-    requires { body_in_range (plain_body body.now) ≡ true }
-    ensures is { result ≡ body_length (plain_body body.now) }
-    ensures bound { result ≤ 518 }
+// How many bytes a body takes, unless a field is outside its range.
+fn ranged_length(body: &Body<&[u8]>) -> Result<usize, Refusal>
+    ensures is { result ≡ (if body_in_range (plain_body body.now) then Ok (body_length (plain_body body.now)) else Err OutOfRange) }
+    ensures bound { IfOk result (λ n. n ≤ 518) }
 {
     match body {
-        Body::Data { number: _, payload } => 6 + payload.len(),
-        Body::Retransmission { number: _, payload } => 6 + payload.len(),
-        Body::Hack(hack) => 22 + 4 * word_count(hack.lsn, hack.hsn) as usize,
-        Body::JoinStream { term: _ } => 4,
-        Body::JoinAck { term: _ } => 4,
-        Body::JoinConfirm {
-            term: _,
-            start: _,
-            slot: _,
-        } => 10,
-        Body::LeaveStream { term: _ } => 4,
-        Body::Heartbeat { clock: _ } => 4,
-        Body::NullData { highest: _ } => 4,
-        Body::Eject { term: _ } => 4,
-        Body::Eos { highest: _ } => 4,
-        Body::HeartbeatResponse { term: _, clock: _ } => 8,
-        Body::LeaveConfirm { term: _ } => 4,
+        Body::Data { number, payload } | Body::Retransmission { number, payload } => {
+            Ok(6 + ranged_payload(*number, payload)?.len())
+        }
+        Body::Hack(hack) => Ok(22 + 4 * hack.ranged_span()?.word_count() as usize),
+        Body::JoinConfirm { term, start, slot } => {
+            at_least_one(*term)?;
+            at_least_one(*start)?;
+            ranged_slot(*slot)?;
+            Ok(10)
+        }
+        Body::HeartbeatResponse { term, .. } => {
+            at_least_one(*term)?;
+            Ok(8)
+        }
+        Body::JoinStream { term }
+        | Body::JoinAck { term }
+        | Body::LeaveStream { term }
+        | Body::Eject { term }
+        | Body::LeaveConfirm { term } => {
+            at_least_one(*term)?;
+            Ok(4)
+        }
+        Body::NullData { highest } | Body::Eos { highest } => {
+            ranged_highest(*highest)?;
+            Ok(4)
+        }
+        Body::Heartbeat { .. } => Ok(4),
     }
 }
 
@@ -106,8 +107,8 @@ fn write_payload(number: u32, payload: &[u8], out: &mut [u8])
     requires room { 22 + length payload.now ≤ length out.old }
     ensures { out.new ≡ overwrite 16 (payload_bytes number payload.now) out.old }
 {
-    put_u32(out, 16, number);
-    put_u16(out, 20, payload.len() as u16);
+    put(out, 16, number.to_be_bytes());
+    put(out, 20, (payload.len() as u16).to_be_bytes());
     out[22..22 + payload.len()].copy_from_slice(payload);
 }
 
@@ -115,19 +116,20 @@ fn write_join_confirm(term: u32, start: u32, slot: u16, out: &mut [u8])
     requires { 26 ≤ length out.old }
     ensures { out.new ≡ overwrite 16 (field_bytes term ++ (field_bytes start ++ short_bytes slot)) out.old }
 {
-    put_u32(out, 16, term);
-    put_u32(out, 20, start);
-    put_u16(out, 24, slot);
+    put(out, 16, term.to_be_bytes());
+    put(out, 20, start.to_be_bytes());
+    put(out, 24, slot.to_be_bytes());
 }
 
 fn write_heartbeat_response(term: u32, clock: u32, out: &mut [u8])
     requires { 24 ≤ length out.old }
     ensures { out.new ≡ overwrite 16 (field_bytes term ++ field_bytes clock) out.old }
 {
-    put_u32(out, 16, term);
-    put_u32(out, 20, clock);
+    put(out, 16, term.to_be_bytes());
+    put(out, 20, clock.to_be_bytes());
 }
 
+#[tactic(auto, unfolding(crate::specs::Fields::field_bytes))]
 fn write_body(body: &Body<&[u8]>, out: &mut [u8])
     requires ranged { body_in_range (plain_body body.now) ≡ true }
     requires room { 16 + body_length (plain_body body.now) ≤ length out.old }
@@ -135,19 +137,20 @@ fn write_body(body: &Body<&[u8]>, out: &mut [u8])
     ensures typed { BodyFits (plain_body body.now) }
 {
     match body {
-        Body::Data { number, payload } => write_payload(*number, payload, out),
-        Body::Retransmission { number, payload } => write_payload(*number, payload, out),
+        Body::Data { number, payload } | Body::Retransmission { number, payload } => {
+            write_payload(*number, payload, out)
+        }
         Body::Hack(hack) => write_hack(hack, out),
-        Body::JoinStream { term } => put_u32(out, 16, *term),
-        Body::JoinAck { term } => put_u32(out, 16, *term),
         Body::JoinConfirm { term, start, slot } => write_join_confirm(*term, *start, *slot, out),
-        Body::LeaveStream { term } => put_u32(out, 16, *term),
-        Body::Heartbeat { clock } => put_u32(out, 16, *clock),
-        Body::NullData { highest } => put_u32(out, 16, *highest),
-        Body::Eject { term } => put_u32(out, 16, *term),
-        Body::Eos { highest } => put_u32(out, 16, *highest),
         Body::HeartbeatResponse { term, clock } => write_heartbeat_response(*term, *clock, out),
-        Body::LeaveConfirm { term } => put_u32(out, 16, *term),
+        Body::JoinStream { term: field }
+        | Body::JoinAck { term: field }
+        | Body::LeaveStream { term: field }
+        | Body::Heartbeat { clock: field }
+        | Body::Eject { term: field }
+        | Body::LeaveConfirm { term: field }
+        | Body::Eos { highest: field }
+        | Body::NullData { highest: field } => put(out, 16, field.to_be_bytes()),
     }
 }
 
@@ -159,20 +162,14 @@ fn write_header(packet: &Packet<'_>, out: &mut [u8])
     out[0..16].copy_from_slice(&header_bytes(packet));
 }
 
-fn in_range(packet: &Packet<'_>) -> bool
-    ensures { result ≡ packet_in_range (plain_packet packet.now) }
-{
-    header_in_range(packet.stream, packet.writer) && body_in_range(&packet.body)
-}
-
 // What `write` would answer for this packet and a buffer as long as `out`. It writes nothing.
 pub fn check_write(packet: &Packet<'_>, out: &[u8]) -> Result<usize, Refusal>
     ensures { result ≡ write_answer (packet_in_range (plain_packet packet.now)) (encode (plain_packet packet.now)) out.now }
 {
-    if !in_range(packet) {
+    if !header_in_range(packet.stream, packet.writer) {
         return Err(Refusal::OutOfRange);
     }
-    let size = 16 + body_length(&packet.body);
+    let size = 16 + ranged_length(&packet.body)?;
     if out.len() < size {
         return Err(Refusal::ShortOutput);
     }

@@ -21,12 +21,28 @@ pub struct Report {
     pub flags: [u32; 9],
 }
 
+impl From<Report> for Hack {
+    ghost from_gives = { λ report hack. hack ≡ hack_of report };
+
+    fn from(report: Report) -> Hack {
+        let flags = report.flags;
+        Hack {
+            term: report.term,
+            serial: report.serial,
+            lsn: report.lsn,
+            hsn: report.hsn,
+            flags,
+        }
+    }
+}
+
 fn body_digest(body: &Body<&[u8]>) -> u64
     ensures { result ≡ body_digest (plain_body body.now) }
 {
     match body {
-        Body::Data { number, payload } => *number as u64 ^ payload.len() as u64,
-        Body::Retransmission { number, payload } => *number as u64 ^ payload.len() as u64,
+        Body::Data { number, payload } | Body::Retransmission { number, payload } => {
+            *number as u64 ^ payload.len() as u64
+        }
         Body::Hack(hack) => {
             hack.term as u64
                 ^ hack.serial as u64
@@ -35,16 +51,16 @@ fn body_digest(body: &Body<&[u8]>) -> u64
                 ^ hack.flags[0] as u64
                 ^ hack.flags[8] as u64
         }
-        Body::JoinStream { term } => *term as u64,
-        Body::JoinAck { term } => *term as u64,
         Body::JoinConfirm { term, start, slot } => *term as u64 ^ *start as u64 ^ *slot as u64,
-        Body::LeaveStream { term } => *term as u64,
-        Body::Heartbeat { clock } => *clock as u64,
-        Body::NullData { highest } => *highest as u64,
-        Body::Eject { term } => *term as u64,
-        Body::Eos { highest } => *highest as u64,
         Body::HeartbeatResponse { term, clock } => *term as u64 ^ *clock as u64,
-        Body::LeaveConfirm { term } => *term as u64,
+        Body::JoinStream { term: field }
+        | Body::JoinAck { term: field }
+        | Body::LeaveStream { term: field }
+        | Body::Heartbeat { clock: field }
+        | Body::NullData { highest: field }
+        | Body::Eject { term: field }
+        | Body::Eos { highest: field }
+        | Body::LeaveConfirm { term: field } => *field as u64,
     }
 }
 
@@ -91,20 +107,26 @@ pub extern "C" fn wire_rewrite(bytes: &[u8], out: &mut [u8]) -> u64
     }
 }
 
+// A packet of a fixed tree and stream.
+fn packet_from<'a>(writer: u16, body: Body<&'a [u8]>) -> Packet<'a>
+    ensures { plain_packet result ≡ packet_from writer (plain_body body.entry) }
+{
+    Message {
+        tree: TreeId([1, 2, 3, 4, 5, 6]),
+        stream: 40000,
+        writer,
+        addressee: 9,
+        body,
+    }
+}
+
 // Writes a Data packet of a fixed tree and stream.
 #[unsafe(no_mangle)]
 pub extern "C" fn wire_write_data(writer: u16, number: u32, payload: &[u8], out: &mut [u8]) -> u64
     ensures answer { result ≡ write_number (packet_answer (packet_from writer (Data number payload.now)) out.old) }
     ensures buffer { out.new ≡ packet_after (packet_from writer (Data number payload.now)) out.old }
 {
-    let packet = Message {
-        tree: TreeId([1, 2, 3, 4, 5, 6]),
-        stream: 40000,
-        writer,
-        addressee: 9,
-        body: Body::Data { number, payload },
-    };
-    write_number(&packet, out)
+    write_number(&packet_from(writer, Body::Data { number, payload }), out)
 }
 
 // Writes a JoinStream packet of a fixed tree and stream.
@@ -113,14 +135,7 @@ pub extern "C" fn wire_write_join(writer: u16, term: u32, out: &mut [u8]) -> u64
     ensures answer { result ≡ write_number (packet_answer (packet_from writer (JoinStream term)) out.old) }
     ensures buffer { out.new ≡ packet_after (packet_from writer (JoinStream term)) out.old }
 {
-    let packet = Packet::bare(
-        TreeId([1, 2, 3, 4, 5, 6]),
-        40000,
-        writer,
-        9,
-        Body::JoinStream { term },
-    );
-    write_number(&packet, out)
+    write_number(&packet_from(writer, Body::JoinStream { term }), out)
 }
 
 // Writes a HACK of a fixed tree and stream.
@@ -129,19 +144,5 @@ pub extern "C" fn wire_write_hack(writer: u16, report: &Report, out: &mut [u8]) 
     ensures answer { result ≡ write_number (packet_answer (packet_from writer (HackOf (hack_of report.now))) out.old) }
     ensures buffer { out.new ≡ packet_after (packet_from writer (HackOf (hack_of report.now))) out.old }
 {
-    let hack = Hack {
-        term: report.term,
-        serial: report.serial,
-        lsn: report.lsn,
-        hsn: report.hsn,
-        flags: report.flags,
-    };
-    let packet = Packet::bare(
-        TreeId([1, 2, 3, 4, 5, 6]),
-        40000,
-        writer,
-        9,
-        Body::Hack(hack),
-    );
-    write_number(&packet, out)
+    write_number(&packet_from(writer, Body::Hack(Hack::from(*report))), out)
 }

@@ -1,20 +1,10 @@
-use Rattle.std.proofs.Common.{◌≡◌, ◌+◌, ◌-◌, ◌/◌, ◌%◌, eqb, get_or, sym, ap, ◌∙◌, arith}
-use lib.Bits.{and_mask}
-use Rattle.std.proofs.lemmas.List.{get_or_past}
-use Rattle.std.proofs.lemmas.Bool.{le-ltb}
+use Rattle.std.proofs.Common.{◌%◌, ◌&&◌, eqb, ap, ◌∙◌, arith}
+use Rattle.std.proofs.lemmas.Bool.{lt-ltb}
 use Rattle.wire.specs.Flags.{flag_at, flag_of}
-use Rattle.wire.proofs.Words.{flag_none}
 use Rattle.wire.proofs.held.is_flagged.Goals as goal
 
-pub returns-then-index-lt9 : goal.returns-then-index-lt9
-unfolding flag_at flag_of
-returns-then-index-lt9 c = ap (λ n. eqb n 1) (and_mask _ 1)
-
--- past the last word no flag is set
-pub returns-else-index-lt9 : goal.returns-else-index-lt9
+pub returns : goal.returns
 unfolding flag_of
-returns-else-index-lt9 c =
-    let l = c.args.lsn in
-    let n = c.args.number in
-    let none : get_or c.args.flags ((l % 32 + (n - l)) / 32) 0 ≡ 0 = get_or_past c.args.flags ((l % 32 + (n - l)) / 32) 0 (omega arith) in
-    le-ltb _ 9 (omega arith) ∙ sym (ap (λ w. eqb (flag_at w (n % 32)) 1) none ∙ ap (λ f. eqb f 1) (flag_none (n % 32)))
+returns c =
+    let j = c.args.number % 32 in
+    c.flag_is_set.ensures ∙ ap (λ b. b && eqb (flag_at c.word_at.result j) 1) (lt-ltb j 32 (omega arith)) ∙ ap (λ w. eqb (flag_at w j) 1) c.word_at.ensures

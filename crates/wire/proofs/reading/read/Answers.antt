@@ -1,37 +1,29 @@
-use Rattle.std.proofs.Common.{◌≡◌, ℕ, ◌≤◌, true, false, cond, not, ◌&&◌, eqb, ltb, List, length, Ok, Err, Result, sym, ap, ◌∙◌}
-use Rattle.std.proofs.lemmas.Bool.{le-ltb}
-use Rattle.wire.specs.Plain.{plain_packet}
-use Rattle.wire.specs.Ranges.{packet_in_range}
-use Rattle.wire.specs.Decoding.{counts_agree, packet_at, header_wrong, type_wrong, expected_length, decode}
-use Rattle.answer.specs.declared.Refusal.TheVariants.{ShortPacket, BadHeader, UnknownType, LengthMismatch, OutOfRange}
-use Rattle.wire.specs.declared.packet.Message.{Message}
+use Rattle.std.proofs.Common.{◌≡◌, ℕ, ◌<◌, List, get_or, Ok, Err, Result, IfOk, OnOk, Bor, sym, ap, ◌∙◌}
 use Rattle.answer.specs.declared.Refusal.{Refusal}
+use Rattle.wire.specs.Decoding.{ranged_packet, decode}
+use Rattle.wire.specs.Encoding.{encode}
+use Rattle.wire.specs.Laws.{canonical_packet, FlagsAsSent, SameButIgnored}
+use Rattle.wire.specs.Plain.{plain_packet, plain_answer}
+use Rattle.wire.specs.declared.packet.Message.{Message}
 use Rattle.wire.proofs.Forth.{reads_canonical}
 use Rattle.wire.proofs.Ignored.{flags_as_sent, same_but_ignored}
-use Rattle.wire.proofs.Chosen.{past, some_ok, none_err}
 use Rattle.wire.proofs.reading.read.Goals as goal
 
--- past the four first refusals
-on : (b : List ℕ) (v : Result (Message (List ℕ)) Refusal) → 16 ≤ length b → false ≡ header_wrong b → false ≡ type_wrong b → true ≡ eqb (length b) (expected_length b)
-    → cond (ltb (length b) 16) (Err ShortPacket) (cond (header_wrong b) (Err BadHeader) (cond (type_wrong b) (Err UnknownType) (cond (not (eqb (length b) (expected_length b))) (Err LengthMismatch) v))) ≡ v
-on b v l h t w = past (ltb (length b) 16) (header_wrong b) (type_wrong b) (not (eqb (length b) (expected_length b))) (Err ShortPacket) (Err BadHeader) (Err UnknownType) (Err LengthMismatch) v (le-ltb (length b) 16 l) (sym h) (sym t) (ap not (sym w))
+-- what holds of an answer that is `decode`'s
+canonical : (b : List ℕ) (r : Result (Message (Bor (List ℕ))) Refusal) → plain_answer r ≡ decode b → IfOk r (λ p. canonical_packet (plain_packet p) ≡ plain_packet p)
+canonical b (Ok p) is = reads_canonical b (plain_packet p) (sym is)
+canonical b (Err e) is = tt
 
-pub returns-in-Some : goal.returns-in-Some
-returns-in-Some c =
-    let b = c.args.bytes.now in
-    let p = plain_packet c.in-Some.packet in
-    let is : Ok p ≡ decode b =
-    some_ok (counts_agree b && packet_in_range (packet_at b)) (packet_at b) p OutOfRange c.in-Some.ensures
-    ∙ sym (on b _ c.if-bytes-lt16.false c.if-header_wrong.ensures c.if-type_wrong.ensures c.if-not-length_fits.ensures) in
-    record { is = is; canonical = reads_canonical b p (sym is); flags = flags_as_sent b p (sym is); writes_back = same_but_ignored b p (λ i. (c.type_inv.bytes i).fits) (sym is) }
+as_sent : (b : List ℕ) (r : Result (Message (Bor (List ℕ))) Refusal) → plain_answer r ≡ decode b → OnOk r (FlagsAsSent b)
+as_sent b (Ok p) is = flags_as_sent b (plain_packet p) (sym is)
+as_sent b (Err e) is = tt
 
-pub returns-in-None : goal.returns-in-None
-returns-in-None c =
+written_back : (b : List ℕ) (r : Result (Message (Bor (List ℕ))) Refusal) → ((i : ℕ) → get_or b i 0 < 256) → plain_answer r ≡ decode b → IfOk r (λ p. SameButIgnored b (encode (plain_packet p)))
+written_back b (Ok p) bytes is = same_but_ignored b (plain_packet p) bytes (sym is)
+written_back b (Err e) bytes is = tt
+
+pub returns : goal.returns
+returns c =
     let b = c.args.bytes.now in
-    record {
-      is = none_err (counts_agree b && packet_in_range (packet_at b)) (packet_at b) OutOfRange c.in-None.ensures
-          ∙ sym (on b _ c.if-bytes-lt16.false c.if-header_wrong.ensures c.if-type_wrong.ensures c.if-not-length_fits.ensures);
-      canonical = tt;
-      flags = tt;
-      writes_back = tt;
-    }
+    let is : plain_answer c.packet.result ≡ decode b = c.packet.ensures ∙ ap ranged_packet c.in_ok-of.ensures.0 ∙ sym c.in_ok-of.ensures.1 in
+    record { is = is; canonical = canonical b _ is; flags = as_sent b _ is; writes_back = written_back b _ (λ i. (c.type_inv.bytes i).fits) is }

@@ -9,5 +9,5 @@ returns c =
     let t = field_bytes c.args.term in
     let s = field_bytes c.args.start in
     let out = c.args.out.now in
-    let two = overwrite_next 16 20 t s out c.put_u32.ensures c.put_u32-2.ensures refl (omega arith) in
-    overwrite_next 16 24 (t ++ s) (short_bytes c.args.slot) out two c.put_u16.ensures refl (omega arith)
+    let two = overwrite_next 16 20 t s out (rw c.to_be_bytes.ensures at c.put.ensures) (rw c.to_be_bytes-2.ensures at c.put-2.ensures) refl (omega arith) in
+    overwrite_next 16 24 (t ++ s) (short_bytes c.args.slot) out two (rw c.to_be_bytes-3.ensures at c.put-3.ensures) refl (omega arith)

@@ -9,5 +9,5 @@ returns c =
     let n = c.args.number in
     let p = c.args.payload.now in
     let out = c.args.out.now in
-    let two = overwrite_next 16 20 (field_bytes n) (short_bytes (length p)) out c.put_u32.ensures c.put_u16.ensures refl (omega arith) in
+    let two = overwrite_next 16 20 (field_bytes n) (short_bytes (length p)) out (rw c.to_be_bytes.ensures at c.put.ensures) (rw c.to_be_bytes-2.ensures at c.put-2.ensures) refl (omega arith) in
     overwrite_next 16 22 (field_bytes n ++ short_bytes (length p)) p out two (overwrite_part 22 _ _ _ p c.copy_from_slice.ensures.after (omega arith)) refl (omega arith)
