@@ -9,11 +9,8 @@ use crate::phase::{Phase, StillOpen};
 use crate::sender::Sender;
 use answer::Refusal;
 use store::Store;
-use store::checks::LONGEST;
+use store::checks::{LAST, LONGEST};
 use wire::{Body, Message, check_write, write};
-
-// The last number that a payload can have.
-const LAST: u32 = 4_294_967_294;
 
 // How many payloads can be on their way: a report has flags for as many.
 const WINDOW: u32 = 256;

@@ -1,24 +1,15 @@
 // The numbers that are to be sent again, as words of 32 flags.
-ghost use Rattle.std.specs.Prelude.{◌≡◌, ℕ, ◌<◌, false, ◌==◌, slice_index};
-ghost use Rattle.wire.specs.Flags.{flag_at};
+ghost use Rattle.std.specs.Prelude.{◌≡◌, ℕ, false, slice_index};
 ghost use Rattle.sender.specs.WantedNumbers.{wants, none_wanted, missing_of};
 
 use std::array;
-use wire::Hack;
+use wire::{Hack, flag_is_set};
 
 // Word i has the numbers from 32 × (`first` + i) on, the first at the highest bit; 1 where the number is wanted.
 #[derive(Clone, Copy)]
 pub struct Wanted {
     first: u32,
     words: [u32; 9],
-}
-
-// Whether the flag at a position is set; position 0 is the highest bit.
-fn is_set(word: u32, position: u32) -> bool
-    requires { position < 32 }
-    ensures { result ≡ (flag_at word position == 1) }
-{
-    (word >> (31 - position)) & 1 == 1
 }
 
 impl Wanted {
@@ -57,6 +48,6 @@ impl Wanted {
         ensures { result ≡ wants self number }
     {
         let block = number / 32;
-        block >= self.first && is_set(self.word(block - self.first), number % 32)
+        block >= self.first && flag_is_set(self.word(block - self.first), number % 32)
     }
 }
