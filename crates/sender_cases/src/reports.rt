@@ -28,7 +28,7 @@ fn check_reported<Q: Store + Drop>(rt: &impl Abort, sender: Open<Q>) {
     );
     let mut queue = sender.into_queue();
     assert_eq!(rt;
-        [1, 2, 3].map(|number| queue.has(number)),
+        [queue.has(1), queue.has(2), queue.has(3)],
         [false, true, true]
     );
 }
