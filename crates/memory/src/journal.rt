@@ -13,7 +13,8 @@ use answer::Refusal;
 use store::checks::{check_pair, copy_payload};
 use store::{MadeOver, Store};
 
-// `count` records lie in the first `used` bytes; none has a number above `highest`.
+// `count` records lie in the first `used` bytes; none has a number above `highest`. There is no model: callers see the store
+// by the trait's `meaning`, and the functions below speak of the bytes under it.
 #[derive(Drop)]
 pub struct Journal {
     memory: Vec<u8>,

@@ -12,7 +12,8 @@ use answer::Refusal;
 use store::checks::{check_pair, copy_payload};
 use store::{MadeOver, Store};
 
-// `used` slots have a record; `homed` tells that each of these lies at home.
+// `used` slots have a record; `homed` tells that each of these lies at home, so it is no sign of a value beside it. There is
+// no model: callers see the store by the trait's `meaning`, and the functions below speak of the bytes under it.
 #[derive(Drop)]
 pub struct SlotStore {
     memory: Vec<u8>,
@@ -81,7 +82,7 @@ fn free_through(bytes: &mut [u8], number: u32) -> (usize, bool)
     let count = bytes.len() / ROOM;
     let mut used = 0;
     let mut homed = true;
-    // by number, since after a borrow by `chunks_exact_mut` no proof knows the bytes
+    // By number: after a borrow by `chunks_exact_mut` no proof knows the bytes.
     for i in 0..count {
         let slot = &bytes[i * ROOM..];
         if length_of(slot) > 0 {

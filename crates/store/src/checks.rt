@@ -32,7 +32,7 @@ pub fn copy_payload(payload: &[u8], buffer: &mut [u8]) -> Result<usize, Refusal>
     if buffer.len() < len {
         return Err(Refusal::ShortBuffer);
     }
-    // not by `get_mut`: after its borrow no proof knows the buffer's bytes
+    // Not by `get_mut`: after its borrow no proof knows the buffer's bytes.
     buffer[..len].copy_from_slice(payload);
     Ok(len)
 }

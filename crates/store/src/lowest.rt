@@ -15,6 +15,6 @@ pub fn lowest_missing<S: Store>(store: &mut S, start: u32) -> u32
             return low;
         }
     }
-    // no store holds it
+    // No store holds it.
     u32::MAX
 }
