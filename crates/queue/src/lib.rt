@@ -10,6 +10,7 @@ use answer::Refusal;
 use store::Store;
 use store::checks::{LAST, LONGEST};
 
+// There is no model: `into_store` gives the store itself back, of which a view by its meaning knows less.
 #[derive(Drop)]
 pub struct Queue<S> {
     store: S,
