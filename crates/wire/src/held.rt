@@ -59,9 +59,8 @@ impl Hack {
         ensures { MatchResult result (λ span. (span.lsn ≡ self.now.lsn) × (span.hsn ≡ self.now.hsn) × (hack_in_range self.now ≡ true)) (λ e. (e ≡ OutOfRange) × (hack_in_range self.now ≡ false)) }
     {
         match Span::checked(self.lsn, self.hsn) {
-            Some(span) if self.term > 0 && self.serial > 0 && span.low_flag_clear(self.flags[0]) => {
-                Ok(span)
-            }
+            Some(span) if self.term > 0 && self.serial > 0 && span.low_flag_clear(self.flags[0]) =>
+                { Ok(span) }
             _ => Err(Refusal::OutOfRange),
         }
     }
