@@ -1,5 +1,5 @@
 -- Tests one after another, over any tests, so that no proof opens those of a packet. Assumes nothing.
-use Rattle.std.proofs.Common.{◌≡◌, ℕ, ◌<◌, ◌≤◌, Bool, true, false, cond, ◌&&◌, ltb, Some, None, Ok, Err, refl, ap, ◌∙◌, inl, inr, arith}
+use Rattle.std.proofs.Common.{◌≡◌, ℕ, ◌<◌, ◌≤◌, Bool, true, false, cond, ◌&&◌, ltb, Ok, Err, refl, ap, ◌∙◌, inl, inr, arith}
 use Rattle.std.proofs.lemmas.Bool.{cases_lt, lt-ltb, le-ltb}
 
 pub past : {X : Type 0} (t₁ t₂ t₃ t₄ : Bool) (e₁ e₂ e₃ e₄ r : X) → t₁ ≡ false → t₂ ≡ false → t₃ ≡ false → t₄ ≡ false → cond t₁ e₁ (cond t₂ e₂ (cond t₃ e₃ (cond t₄ e₄ r))) ≡ r

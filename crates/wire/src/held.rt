@@ -58,11 +58,11 @@ impl Hack {
     pub(crate) fn ranged_span(&self) -> Result<Span, Refusal>
         ensures { MatchResult result (λ span. (span.lsn ≡ self.now.lsn) × (span.hsn ≡ self.now.hsn) × (hack_in_range self.now ≡ true)) (λ e. (e ≡ OutOfRange) × (hack_in_range self.now ≡ false)) }
     {
-        match Span::checked(self.lsn, self.hsn) {
-            Some(span) if self.term > 0 && self.serial > 0 && span.low_flag_clear(self.flags[0]) => {
-                Ok(span)
-            }
-            _ => Err(Refusal::OutOfRange),
+        let span = Span::checked(self.lsn, self.hsn).ok_or(Refusal::OutOfRange)?;
+        if self.term > 0 && self.serial > 0 && span.low_flag_clear(self.flags[0]) {
+            Ok(span)
+        } else {
+            Err(Refusal::OutOfRange)
         }
     }
 

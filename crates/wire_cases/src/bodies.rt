@@ -1,5 +1,9 @@
 // Each body, written and read: the bytes of `vectors` and the packet that they are.
-use crate::vectors::vector;
+use crate::vectors::{
+    DATA, EJECT, EOS, HACK, HEARTBEAT, HEARTBEAT_RESPONSE, JOIN_ACK, JOIN_CONFIRM, JOIN_STREAM,
+    LEAVE_CONFIRM, LEAVE_STREAM, NULL_DATA, RETRANSMISSION,
+};
+use answer::Refusal::{OutOfRange, ShortOutput};
 use std::test::Fail;
 use wire::{Body, Hack, Message, Packet, TreeId, read, write};
 
@@ -11,38 +15,52 @@ const REPORT: Hack = Hack {
     flags: [0xff7e_dc7f, 0xff80_0000, 0, 0, 0, 0, 0, 0, 0],
 };
 
-fn body(kind: u8) -> Body<&'static [u8]> {
-    match kind {
-        1 => Body::Data {
+// Each body, and its packet in bytes.
+const BODIES: [(Body<&[u8]>, &[u8]); 13] = [
+    (
+        Body::Data {
             number: 5,
             payload: b"abc",
         },
-        2 => Body::Retransmission {
+        DATA,
+    ),
+    (
+        Body::Retransmission {
             number: 6,
             payload: b"z",
         },
-        3 => Body::Hack(REPORT),
-        4 => Body::JoinStream { term: 2 },
-        5 => Body::JoinAck { term: 3 },
-        6 => Body::JoinConfirm {
+        RETRANSMISSION,
+    ),
+    (Body::Hack(REPORT), HACK),
+    (Body::JoinStream { term: 2 }, JOIN_STREAM),
+    (Body::JoinAck { term: 3 }, JOIN_ACK),
+    (
+        Body::JoinConfirm {
             term: 4,
             start: 10,
             slot: 15,
         },
-        7 => Body::LeaveStream { term: 5 },
-        8 => Body::Heartbeat { clock: 1000 },
-        9 => Body::NullData { highest: 0 },
-        10 => Body::Eject { term: 6 },
-        11 => Body::Eos {
+        JOIN_CONFIRM,
+    ),
+    (Body::LeaveStream { term: 5 }, LEAVE_STREAM),
+    (Body::Heartbeat { clock: 1000 }, HEARTBEAT),
+    (Body::NullData { highest: 0 }, NULL_DATA),
+    (Body::Eject { term: 6 }, EJECT),
+    (
+        Body::Eos {
             highest: u32::MAX - 1,
         },
-        12 => Body::HeartbeatResponse {
+        EOS,
+    ),
+    (
+        Body::HeartbeatResponse {
             term: 7,
             clock: 2000,
         },
-        _ => Body::LeaveConfirm { term: u32::MAX },
-    }
-}
+        HEARTBEAT_RESPONSE,
+    ),
+    (Body::LeaveConfirm { term: u32::MAX }, LEAVE_CONFIRM),
+];
 
 fn packet(body: Body<&[u8]>) -> Packet<'_> {
     Message {
@@ -63,26 +81,18 @@ fn is_written_as(packet: &Packet<'_>, bytes: &[u8]) -> bool {
     }
 }
 
-// How many bytes a body's packet takes, or the number of the refusal.
-fn size(body: Body<&[u8]>, out: &mut [u8]) -> usize {
-    match write(&packet(body), out) {
-        Ok(len) => len,
-        Err(refusal) => refusal.number() as usize,
-    }
-}
-
 #[test]
 fn each_body_is_its_bytes(rt: HostRuntime) -> Result<(), Fail> {
-    for kind in 1..14u8 {
-        assert!(rt; is_written_as(&packet(body(kind)), vector(kind)), "write");
-        assert!(rt; is_written_as(&read(vector(kind))?, vector(kind)), "read");
+    for (body, bytes) in BODIES {
+        assert!(rt; is_written_as(&packet(body), bytes), "write");
+        assert!(rt; is_written_as(&read(bytes)?, bytes), "read");
     }
     Ok(())
 }
 
 #[test]
 fn header_is_read(rt: HostRuntime) -> Result<(), Fail> {
-    let packet = read(vector(4))?;
+    let packet = read(JOIN_STREAM)?;
     assert!(rt; packet.tree == TreeId([1, 2, 3, 4, 5, 6]));
     assert!(rt; packet.stream == 32769 && packet.writer == 7 && packet.addressee == 9);
     assert!(rt; matches!(packet.body, Body::JoinStream { term: 2 }));
@@ -91,7 +101,7 @@ fn header_is_read(rt: HostRuntime) -> Result<(), Fail> {
 
 #[test]
 fn payload_is_lent(rt: HostRuntime) -> Result<(), Fail> {
-    match read(vector(1))?.body {
+    match read(DATA)?.body {
         Body::Data { number, payload } => {
             assert!(rt; number == 5 && payload == b"abc".as_slice());
             Ok(())
@@ -108,9 +118,9 @@ fn longest_payload(rt: HostRuntime) -> Result<(), Fail> {
         payload: &payload,
     };
     let mut short = [0u8; 533];
-    assert_eq!(rt; size(longest, &mut short), 12);
+    assert_eq!(rt; write(&packet(longest), &mut short), Err(ShortOutput));
     let mut out = [0u8; 534];
-    assert_eq!(rt; size(longest, &mut out), 534);
+    assert_eq!(rt; write(&packet(longest), &mut out), Ok(534));
     match read(&out)?.body {
         Body::Data { number, payload } => {
             assert!(rt; number == u32::MAX - 1 && payload.len() == 512);
@@ -128,12 +138,12 @@ fn payload_out_of_range(rt: HostRuntime) {
         number: 1,
         payload: &payload,
     };
-    assert_eq!(rt; size(longer, &mut out), 11);
+    assert_eq!(rt; write(&packet(longer), &mut out), Err(OutOfRange));
     let empty: Body<&[u8]> = Body::Retransmission {
         number: 1,
         payload: &[],
     };
-    assert_eq!(rt; size(empty, &mut out), 11);
+    assert_eq!(rt; write(&packet(empty), &mut out), Err(OutOfRange));
 }
 
 // A value out of range is told before a buffer that is short, and neither writes a byte.
@@ -144,7 +154,10 @@ fn refused_write_leaves_the_buffer(rt: HostRuntime) {
         number: 0,
         payload: b"abc",
     };
-    assert_eq!(rt; size(zero, &mut out), 11);
-    assert_eq!(rt; size(body(10), &mut out), 12);
+    assert_eq!(rt; write(&packet(zero), &mut out), Err(OutOfRange));
+    assert_eq!(rt;
+        write(&packet(Body::Eject { term: 6 }), &mut out),
+        Err(ShortOutput)
+    );
     assert!(rt; out == [0xa5u8; 19]);
 }

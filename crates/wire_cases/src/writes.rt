@@ -1,7 +1,8 @@
-// Packets that are not written, and the number of the refusal; 0 where they are.
+// Packets that are not written, and the refusal; none where they are.
+use answer::Refusal;
+use answer::Refusal::{OutOfRange, ShortOutput};
 use std::convert::Infallible;
 use std::process::Abort;
-use std::test::Fail;
 use wire::{Body, Hack, Message, Packet, TreeId, write};
 
 const REPORT: Hack = Hack {
@@ -30,32 +31,28 @@ const NO_TERM: Hack = Hack {
 };
 
 // Writes to so many bytes, which a refusal leaves as they are.
-fn number_of(rt: &impl Abort, packet: &Packet<'_>, room: usize) -> Result<u8, Fail> {
+fn refusal_of(rt: &impl Abort, packet: &Packet<'_>, room: usize) -> Option<Refusal> {
     let mut out = [170u8; 48];
-    match write(packet, &mut out[0..room.min(48)]) {
-        Ok(_) => Ok(0),
-        Err(refusal) => {
-            assert!(rt; out == [170u8; 48]);
-            Ok(refusal.number())
-        }
-    }
+    let refusal = write(packet, &mut out[0..room.min(48)]).err();
+    assert!(rt; refusal.is_none() || out == [170u8; 48]);
+    refusal
 }
 
-fn number(
+fn refusal(
     rt: &impl Abort,
     stream: u16,
     writer: u16,
     body: Body<Infallible>,
     room: usize,
-) -> Result<u8, Fail> {
-    number_of(
+) -> Option<Refusal> {
+    refusal_of(
         rt,
         &Packet::bare(TreeId([1; 6]), stream, writer, 0, body),
         room,
     )
 }
 
-fn data_number(rt: &impl Abort, number: u32, payload: &[u8], room: usize) -> Result<u8, Fail> {
+fn data_refusal(rt: &impl Abort, number: u32, payload: &[u8], room: usize) -> Option<Refusal> {
     let packet = Message {
         tree: TreeId([1; 6]),
         stream: 40000,
@@ -63,35 +60,37 @@ fn data_number(rt: &impl Abort, number: u32, payload: &[u8], room: usize) -> Res
         addressee: 0,
         body: Body::Data { number, payload },
     };
-    number_of(rt, &packet, room)
+    refusal_of(rt, &packet, room)
 }
 
 #[test]
-fn headers(rt: HostRuntime) -> Result<(), Fail> {
-    assert_eq!(rt; number(&rt, 32768, 1, Body::Heartbeat { clock: 0 }, 20)?, 0);
+fn headers(rt: HostRuntime) {
     assert_eq!(rt;
-        number(&rt, 32767, 1, Body::Heartbeat { clock: 0 }, 20)?,
-        11
+        refusal(&rt, 32768, 1, Body::Heartbeat { clock: 0 }, 20),
+        None
     );
     assert_eq!(rt;
-        number(&rt, 32768, 0, Body::Heartbeat { clock: 0 }, 20)?,
-        11
+        refusal(&rt, 32767, 1, Body::Heartbeat { clock: 0 }, 20),
+        Some(OutOfRange)
     );
     assert_eq!(rt;
-        number(&rt, 32767, 1, Body::Heartbeat { clock: 0 }, 19)?,
-        11
+        refusal(&rt, 32768, 0, Body::Heartbeat { clock: 0 }, 20),
+        Some(OutOfRange)
     );
     assert_eq!(rt;
-        number(&rt, 65535, 65535, Body::Heartbeat { clock: 0 }, 19)?,
-        12
+        refusal(&rt, 32767, 1, Body::Heartbeat { clock: 0 }, 19),
+        Some(OutOfRange)
     );
-    Ok(())
+    assert_eq!(rt;
+        refusal(&rt, 65535, 65535, Body::Heartbeat { clock: 0 }, 19),
+        Some(ShortOutput)
+    );
 }
 
 #[test]
-fn ranges(rt: HostRuntime) -> Result<(), Fail> {
+fn ranges(rt: HostRuntime) {
     assert_eq!(rt;
-        number(
+        refusal(
             &rt,
             40000,
             1,
@@ -101,11 +100,11 @@ fn ranges(rt: HostRuntime) -> Result<(), Fail> {
                 slot: 16,
             },
             48,
-        )?,
-        11
+        ),
+        Some(OutOfRange)
     );
     assert_eq!(rt;
-        number(
+        refusal(
             &rt,
             40000,
             1,
@@ -115,16 +114,19 @@ fn ranges(rt: HostRuntime) -> Result<(), Fail> {
                 slot: 15,
             },
             48,
-        )?,
-        11
-    );
-    assert_eq!(rt; number(&rt, 40000, 1, Body::JoinAck { term: 0 }, 48)?, 11);
-    assert_eq!(rt;
-        number(&rt, 40000, 1, Body::NullData { highest: u32::MAX }, 48)?,
-        11
+        ),
+        Some(OutOfRange)
     );
     assert_eq!(rt;
-        number(
+        refusal(&rt, 40000, 1, Body::JoinAck { term: 0 }, 48),
+        Some(OutOfRange)
+    );
+    assert_eq!(rt;
+        refusal(&rt, 40000, 1, Body::NullData { highest: u32::MAX }, 48),
+        Some(OutOfRange)
+    );
+    assert_eq!(rt;
+        refusal(
             &rt,
             40000,
             1,
@@ -132,20 +134,25 @@ fn ranges(rt: HostRuntime) -> Result<(), Fail> {
                 highest: u32::MAX - 1,
             },
             48,
-        )?,
-        0
+        ),
+        None
     );
-    assert_eq!(rt; data_number(&rt, 1, b"", 48)?, 11);
-    assert_eq!(rt; data_number(&rt, u32::MAX, b"a", 48)?, 11);
-    assert_eq!(rt; number(&rt, 40000, 1, Body::Hack(LOW_FLAG), 48)?, 11);
-    assert_eq!(rt; number(&rt, 40000, 1, Body::Hack(NO_TERM), 48)?, 11);
-    Ok(())
+    assert_eq!(rt; data_refusal(&rt, 1, b"", 48), Some(OutOfRange));
+    assert_eq!(rt; data_refusal(&rt, u32::MAX, b"a", 48), Some(OutOfRange));
+    assert_eq!(rt;
+        refusal(&rt, 40000, 1, Body::Hack(LOW_FLAG), 48),
+        Some(OutOfRange)
+    );
+    assert_eq!(rt;
+        refusal(&rt, 40000, 1, Body::Hack(NO_TERM), 48),
+        Some(OutOfRange)
+    );
 }
 
 #[test]
-fn short_buffers(rt: HostRuntime) -> Result<(), Fail> {
+fn short_buffers(rt: HostRuntime) {
     assert_eq!(rt;
-        number(
+        refusal(
             &rt,
             40000,
             1,
@@ -155,11 +162,11 @@ fn short_buffers(rt: HostRuntime) -> Result<(), Fail> {
                 slot: 15,
             },
             25,
-        )?,
-        12
+        ),
+        Some(ShortOutput)
     );
     assert_eq!(rt;
-        number(
+        refusal(
             &rt,
             40000,
             1,
@@ -169,45 +176,41 @@ fn short_buffers(rt: HostRuntime) -> Result<(), Fail> {
                 slot: 15,
             },
             26,
-        )?,
-        0
+        ),
+        None
     );
     assert_eq!(rt;
-        number(
+        refusal(
             &rt,
             40000,
             1,
             Body::HeartbeatResponse { term: 1, clock: 0 },
             23
-        )?,
-        12
+        ),
+        Some(ShortOutput)
     );
     assert_eq!(rt;
-        number(
+        refusal(
             &rt,
             40000,
             1,
             Body::HeartbeatResponse { term: 1, clock: 0 },
             24
-        )?,
-        0
+        ),
+        None
     );
-    assert_eq!(rt; number(&rt, 40000, 1, Body::Hack(REPORT), 45)?, 12);
-    assert_eq!(rt; number(&rt, 40000, 1, Body::Hack(REPORT), 46)?, 0);
-    assert_eq!(rt; data_number(&rt, 1, b"abc", 24)?, 12);
-    assert_eq!(rt; data_number(&rt, 1, b"abc", 25)?, 0);
-    Ok(())
+    assert_eq!(rt;
+        refusal(&rt, 40000, 1, Body::Hack(REPORT), 45),
+        Some(ShortOutput)
+    );
+    assert_eq!(rt; refusal(&rt, 40000, 1, Body::Hack(REPORT), 46), None);
+    assert_eq!(rt; data_refusal(&rt, 1, b"abc", 24), Some(ShortOutput));
+    assert_eq!(rt; data_refusal(&rt, 1, b"abc", 25), None);
 }
 
 #[test]
-fn no_list_of_a_report_out_of_range(rt: HostRuntime) -> Result<(), Fail> {
+fn no_list_of_a_report_out_of_range(rt: HostRuntime) {
     let mut numbers = [7u32; 40];
-    match NO_TERM.missing(&mut numbers) {
-        Ok(_) => Err(Fail::new("a list")),
-        Err(refusal) => {
-            assert_eq!(rt; refusal.number(), 11);
-            assert!(rt; numbers == [7u32; 40]);
-            Ok(())
-        }
-    }
+    assert_eq!(rt; NO_TERM.missing(&mut numbers), Err(OutOfRange));
+    assert!(rt; numbers == [7u32; 40]);
 }

@@ -1,4 +1,4 @@
-use Rattle.std.proofs.Common.{◌≡◌, ℕ, ◌+◌, true, length, sym, arith}
+use Rattle.std.proofs.Common.{◌≡◌, ◌+◌, true, length, sym, arith}
 use Rattle.std.proofs.lemmas.Bool.{and_from}
 use Rattle.wire.specs.Plain.{plain_packet}
 use Rattle.wire.specs.Ranges.{packet_in_range, header_in_range, body_in_range}
