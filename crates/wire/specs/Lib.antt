@@ -1,7 +1,6 @@
 pub mod Fields
 pub mod Flags
 pub mod Plain
-pub mod Types
 pub mod Ranges
 pub mod Encoding
 pub mod Decoding

@@ -1,22 +1,23 @@
 // Bytes whose header, type and length are those of a packet, and what they mean.
-ghost use Rattle.std.specs.Prelude.{◌≡◌, ◌≤◌, ◌==◌, length, slice_index, MatchResult, Err};
+ghost use Rattle.std.specs.Prelude.{◌≡◌, ◌≤◌, ◌==◌, false, length, MatchResult, Err};
 ghost use Rattle.wire.specs.Plain.{plain_body_answer, plain_answer};
-ghost use Rattle.wire.specs.Types.{number_of, least_lengths};
-ghost use Rattle.wire.specs.Decoding.{header_wrong, type_at, lengths_by_type, expected_length, ranged_body, ranged_packet, decode};
+ghost use Rattle.wire.specs.Decoding.{header_wrong, type_wrong, expected_length, ranged_body, ranged_packet, decode};
 
 use crate::fields::{array_at, rest_from, u16_at, u32_at};
 use crate::packet::{Body, Message, Packet, TreeId};
-use crate::packet_type::PacketType;
-use crate::ranges::{at_least_one, header_in_range, ranged_highest, ranged_payload, ranged_slot};
+use crate::packet_type::{
+    DATA, EJECT, EOS, HACK, HEARTBEAT, HEARTBEAT_RESPONSE, JOIN_ACK, JOIN_CONFIRM, JOIN_STREAM,
+    LEAVE_CONFIRM, LEAVE_STREAM, NULL_DATA, RETRANSMISSION,
+};
+use crate::ranges::{at_least_one, check_payload, header_in_range, ranged_highest, ranged_slot};
 use crate::reading_hack::hack_at;
 use answer::Refusal;
 
 #[derive(Clone, Copy)]
 pub(crate) struct Framed<'a> {
-    kind: PacketType,
     bytes: &'a [u8],
-    ghost typed: { number_of kind ≡ type_at bytes.now },
     ghost header: { 16 ≤ length bytes.now },
+    ghost typed: { type_wrong bytes.now ≡ false },
     ghost long: { length bytes.now ≡ expected_length bytes.now },
 }
 
@@ -27,34 +28,27 @@ fn header_wrong(bytes: &[u8]) -> bool
     bytes[0] != 32 || bytes[14] != 0 || bytes[15] != 0
 }
 
-// How long a packet of a type is where its counts are 0. Apart from the counts, so that it becomes a table: a jump by type
-// takes longer.
-fn least_length(kind: PacketType) -> usize
-    ensures { result ≡ slice_index least_lengths (number_of kind) }
+fn type_wrong(bytes: &[u8]) -> bool
+    requires { 16 ≤ length bytes.now }
+    ensures { result ≡ type_wrong bytes.now }
 {
-    match kind {
-        PacketType::Data | PacketType::Retransmission => 22,
-        PacketType::Hack => 38,
-        PacketType::JoinConfirm => 26,
-        PacketType::HeartbeatResponse => 24,
-        _ => 20,
-    }
+    bytes[1] < DATA || bytes[1] > LEAVE_CONFIRM
 }
 
 // Whether the length is the one that the type and its counts ask for.
-fn length_fits(kind: PacketType, bytes: &[u8]) -> bool
-    ensures { result ≡ (length bytes.now == slice_index (lengths_by_type bytes.now) (number_of kind)) }
+fn length_fits(bytes: &[u8]) -> bool
+    requires header { 16 ≤ length bytes.now }
+    requires typed { type_wrong bytes.now ≡ false }
+    ensures { result ≡ (length bytes.now == expected_length bytes.now) }
 {
-    let least = least_length(kind);
-    if bytes.len() < least {
-        return false;
+    let len = bytes.len();
+    match bytes[1] {
+        DATA | RETRANSMISSION => len >= 22 && len == 22 + u16_at(bytes, 20) as usize,
+        HACK => len >= 38 && len == 38 + 4 * u16_at(bytes, 36) as usize,
+        JOIN_CONFIRM => len == 26,
+        HEARTBEAT_RESPONSE => len == 24,
+        _ => len == 20,
     }
-    let counted = match kind {
-        PacketType::Data | PacketType::Retransmission => u16_at(bytes, 20) as usize,
-        PacketType::Hack => 4 * u16_at(bytes, 36) as usize,
-        _ => 0,
-    };
-    bytes.len() == least + counted
 }
 
 impl<'a> Framed<'a> {
@@ -68,11 +62,13 @@ impl<'a> Framed<'a> {
         if header_wrong(bytes) {
             return Err(Refusal::BadHeader);
         }
-        let kind = PacketType::try_from(bytes[1])?;
-        if !length_fits(kind, bytes) {
+        if type_wrong(bytes) {
+            return Err(Refusal::UnknownType);
+        }
+        if !length_fits(bytes) {
             return Err(Refusal::LengthMismatch);
         }
-        Ok(Framed { kind, bytes })
+        Ok(Framed { bytes })
     }
 
     // The body, unless a field is outside its range.
@@ -81,47 +77,56 @@ impl<'a> Framed<'a> {
     {
         let bytes = self.bytes;
         let first = u32_at(bytes, 16);
-        let body = match self.kind {
-            PacketType::Data => Body::Data {
-                number: first,
-                payload: ranged_payload(first, rest_from(bytes, 22))?,
-            },
-            PacketType::Retransmission => Body::Retransmission {
-                number: first,
-                payload: ranged_payload(first, rest_from(bytes, 22))?,
-            },
-            PacketType::Hack => Body::Hack(hack_at(bytes)?),
-            PacketType::JoinStream => Body::JoinStream {
+        let body = match bytes[1] {
+            DATA => {
+                let payload = rest_from(bytes, 22);
+                check_payload(first, payload)?;
+                Body::Data {
+                    number: first,
+                    payload,
+                }
+            }
+            RETRANSMISSION => {
+                let payload = rest_from(bytes, 22);
+                check_payload(first, payload)?;
+                Body::Retransmission {
+                    number: first,
+                    payload,
+                }
+            }
+            HACK => Body::Hack(hack_at(bytes)?),
+            JOIN_STREAM => Body::JoinStream {
                 term: at_least_one(first)?,
             },
-            PacketType::JoinAck => Body::JoinAck {
+            JOIN_ACK => Body::JoinAck {
                 term: at_least_one(first)?,
             },
-            PacketType::JoinConfirm => Body::JoinConfirm {
+            JOIN_CONFIRM => Body::JoinConfirm {
                 term: at_least_one(first)?,
                 start: at_least_one(u32_at(bytes, 20))?,
                 slot: ranged_slot(u16_at(bytes, 24))?,
             },
-            PacketType::LeaveStream => Body::LeaveStream {
+            LEAVE_STREAM => Body::LeaveStream {
                 term: at_least_one(first)?,
             },
-            PacketType::Heartbeat => Body::Heartbeat { clock: first },
-            PacketType::NullData => Body::NullData {
+            HEARTBEAT => Body::Heartbeat { clock: first },
+            NULL_DATA => Body::NullData {
                 highest: ranged_highest(first)?,
             },
-            PacketType::Eject => Body::Eject {
+            EJECT => Body::Eject {
                 term: at_least_one(first)?,
             },
-            PacketType::Eos => Body::Eos {
+            EOS => Body::Eos {
                 highest: ranged_highest(first)?,
             },
-            PacketType::HeartbeatResponse => Body::HeartbeatResponse {
+            HEARTBEAT_RESPONSE => Body::HeartbeatResponse {
                 term: at_least_one(first)?,
                 clock: u32_at(bytes, 20),
             },
-            PacketType::LeaveConfirm => Body::LeaveConfirm {
+            LEAVE_CONFIRM => Body::LeaveConfirm {
                 term: at_least_one(first)?,
             },
+            _ => unreachable!(),
         };
         Ok(body)
     }

@@ -1,55 +1,27 @@
-// The types of packets, by the numbers that stand in byte 1.
-ghost use Rattle.std.specs.Prelude.{◌≡◌};
-ghost use Rattle.wire.specs.Types.{number_of, Decodes};
+// The types of packets, by the numbers that stand in byte 1. They are constants and no enum: a reader that first made an enum
+// of the number took an eighth longer for a payload, and missed the bar for speed.
+pub(crate) const DATA: u8 = 1;
 
-use answer::Refusal;
+pub(crate) const RETRANSMISSION: u8 = 2;
 
-#[derive(Clone, Copy, PartialEq, Eq, Debug)]
-pub(crate) enum PacketType {
-    Data = 1,
-    Retransmission = 2,
-    Hack = 3,
-    JoinStream = 4,
-    JoinAck = 5,
-    JoinConfirm = 6,
-    LeaveStream = 7,
-    Heartbeat = 8,
-    NullData = 9,
-    Eject = 10,
-    Eos = 11,
-    HeartbeatResponse = 12,
-    LeaveConfirm = 13,
-}
+pub(crate) const HACK: u8 = 3;
 
-impl PacketType {
-    pub(crate) fn number(self) -> u8
-        ensures { result ≡ number_of self }
-    {
-        self as u8
-    }
-}
+pub(crate) const JOIN_STREAM: u8 = 4;
 
-impl TryFrom<u8> for PacketType {
-    type Error = Refusal;
+pub(crate) const JOIN_ACK: u8 = 5;
 
-    ghost try_from_gives = { Decodes };
+pub(crate) const JOIN_CONFIRM: u8 = 6;
 
-    fn try_from(number: u8) -> Result<PacketType, Refusal> {
-        match number {
-            1 => Ok(PacketType::Data),
-            2 => Ok(PacketType::Retransmission),
-            3 => Ok(PacketType::Hack),
-            4 => Ok(PacketType::JoinStream),
-            5 => Ok(PacketType::JoinAck),
-            6 => Ok(PacketType::JoinConfirm),
-            7 => Ok(PacketType::LeaveStream),
-            8 => Ok(PacketType::Heartbeat),
-            9 => Ok(PacketType::NullData),
-            10 => Ok(PacketType::Eject),
-            11 => Ok(PacketType::Eos),
-            12 => Ok(PacketType::HeartbeatResponse),
-            13 => Ok(PacketType::LeaveConfirm),
-            _ => Err(Refusal::UnknownType),
-        }
-    }
-}
+pub(crate) const LEAVE_STREAM: u8 = 7;
+
+pub(crate) const HEARTBEAT: u8 = 8;
+
+pub(crate) const NULL_DATA: u8 = 9;
+
+pub(crate) const EJECT: u8 = 10;
+
+pub(crate) const EOS: u8 = 11;
+
+pub(crate) const HEARTBEAT_RESPONSE: u8 = 12;
+
+pub(crate) const LEAVE_CONFIRM: u8 = 13;

@@ -1,5 +1,5 @@
 // Fields, where they lie in their ranges.
-ghost use Rattle.std.specs.Prelude.{◌≡◌, length, nat_le, nat_lt, true, false, if◌then◌else◌, Ok, Err, MatchResult};
+ghost use Rattle.std.specs.Prelude.{◌≡◌, length, nat_le, nat_lt, if◌then◌else◌, Ok, Err};
 ghost use Rattle.answer.specs.declared.Refusal.TheVariants.{OutOfRange};
 ghost use Rattle.wire.specs.Ranges.{at_least_one, header_in_range, payload_in_range};
 
@@ -43,12 +43,12 @@ pub(crate) fn ranged_slot(field: u16) -> Result<u16, Refusal>
     }
 }
 
-// The payload of the record with a number, where both lie in their ranges.
-pub(crate) fn ranged_payload(number: u32, payload: &[u8]) -> Result<&[u8], Refusal>
-    ensures { MatchResult result (λ p. (p.now ≡ payload.now) × (payload_in_range number (length payload.now) ≡ true)) (λ e. (e ≡ OutOfRange) × (payload_in_range number (length payload.now) ≡ false)) }
+// Refuses a payload or its number outside their ranges.
+pub(crate) fn check_payload(number: u32, payload: &[u8]) -> Result<(), Refusal>
+    ensures { result ≡ (if payload_in_range number (length payload.now) then Ok tt else Err OutOfRange) }
 {
     if number > 0 && number < u32::MAX && payload.len() > 0 && payload.len() <= 512 {
-        Ok(payload)
+        Ok(())
     } else {
         Err(Refusal::OutOfRange)
     }

@@ -5,35 +5,37 @@ ghost use Rattle.wire.specs.Fields.{short_bytes, field_bytes, overwrite};
 ghost use Rattle.wire.specs.Laws.{HeaderFits, BodyFits, canonical_packet};
 ghost use Rattle.wire.specs.Plain.{plain_packet, plain_body};
 ghost use Rattle.wire.specs.Ranges.{packet_in_range, body_in_range};
-ghost use Rattle.wire.specs.Types.{number_of};
 ghost use Rattle.wire.specs.Encoding.{type_of, header_bytes, body_bytes, body_length, payload_bytes, encode, write_answer, buffer_after};
 ghost use Rattle.wire.specs.Decoding.{decode};
 
 use crate::fields::put;
 use crate::packet::{Body, Packet};
-use crate::packet_type::PacketType;
-use crate::ranges::{at_least_one, header_in_range, ranged_highest, ranged_payload, ranged_slot};
+use crate::packet_type::{
+    DATA, EJECT, EOS, HACK, HEARTBEAT, HEARTBEAT_RESPONSE, JOIN_ACK, JOIN_CONFIRM, JOIN_STREAM,
+    LEAVE_CONFIRM, LEAVE_STREAM, NULL_DATA, RETRANSMISSION,
+};
+use crate::ranges::{at_least_one, check_payload, header_in_range, ranged_highest, ranged_slot};
 use crate::writing_hack::write_hack;
 use answer::Refusal;
 
 // The type of a body.
-fn type_of(body: &Body<&[u8]>) -> PacketType
-    ensures { number_of result ≡ type_of (plain_body body.now) }
+fn type_of(body: &Body<&[u8]>) -> u8
+    ensures { result ≡ type_of (plain_body body.now) }
 {
     match body {
-        Body::Data { .. } => PacketType::Data,
-        Body::Retransmission { .. } => PacketType::Retransmission,
-        Body::Hack(_) => PacketType::Hack,
-        Body::JoinStream { .. } => PacketType::JoinStream,
-        Body::JoinAck { .. } => PacketType::JoinAck,
-        Body::JoinConfirm { .. } => PacketType::JoinConfirm,
-        Body::LeaveStream { .. } => PacketType::LeaveStream,
-        Body::Heartbeat { .. } => PacketType::Heartbeat,
-        Body::NullData { .. } => PacketType::NullData,
-        Body::Eject { .. } => PacketType::Eject,
-        Body::Eos { .. } => PacketType::Eos,
-        Body::HeartbeatResponse { .. } => PacketType::HeartbeatResponse,
-        Body::LeaveConfirm { .. } => PacketType::LeaveConfirm,
+        Body::Data { .. } => DATA,
+        Body::Retransmission { .. } => RETRANSMISSION,
+        Body::Hack(_) => HACK,
+        Body::JoinStream { .. } => JOIN_STREAM,
+        Body::JoinAck { .. } => JOIN_ACK,
+        Body::JoinConfirm { .. } => JOIN_CONFIRM,
+        Body::LeaveStream { .. } => LEAVE_STREAM,
+        Body::Heartbeat { .. } => HEARTBEAT,
+        Body::NullData { .. } => NULL_DATA,
+        Body::Eject { .. } => EJECT,
+        Body::Eos { .. } => EOS,
+        Body::HeartbeatResponse { .. } => HEARTBEAT_RESPONSE,
+        Body::LeaveConfirm { .. } => LEAVE_CONFIRM,
     }
 }
 
@@ -48,7 +50,7 @@ fn header_bytes(packet: &Packet<'_>) -> [u8; 16]
     let addressee = packet.addressee.to_be_bytes();
     [
         32,
-        type_of(&packet.body).number(),
+        type_of(&packet.body),
         tree[0],
         tree[1],
         tree[2],
@@ -73,7 +75,8 @@ fn ranged_length(body: &Body<&[u8]>) -> Result<usize, Refusal>
 {
     match body {
         Body::Data { number, payload } | Body::Retransmission { number, payload } => {
-            Ok(6 + ranged_payload(*number, payload)?.len())
+            check_payload(*number, payload)?;
+            Ok(6 + payload.len())
         }
         Body::Hack(hack) => Ok(22 + 4 * hack.ranged_span()?.word_count() as usize),
         Body::JoinConfirm { term, start, slot } => {
