@@ -34,7 +34,7 @@ impl Address {
     fn is_stream_of(self, packet: &Packet<'_>) -> bool
         ensures { result ≡ same_stream self (plain_packet packet.now) }
     {
-        packet.tree == self.tree && packet.stream == self.stream
+        packet.tree.is(self.tree) && packet.stream == self.stream
     }
 
     // Refuses a packet of another tree or stream, then one for another node.

@@ -88,7 +88,8 @@ pub enum Outcome {
     Taken,
 }
 
-// The answer of a deliver that is not refused. `reply` bytes of the caller's buffer are the reply; 0 bytes are no reply.
+// The answer of a deliver that is not refused. `reply` bytes of the caller's buffer are the reply. It is no
+// Option: the caller sends the first `reply` bytes either way, and where there is no reply these are none.
 #[derive(Clone, Copy)]
 pub struct Delivered {
     pub outcome: Outcome,

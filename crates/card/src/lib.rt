@@ -18,6 +18,8 @@ struct Held {
     len: usize,
 }
 
+// There is no model: callers see the card by the trait's `meaning`. The memory is given once, so the payload's length stands
+// beside it.
 #[derive(Drop)]
 pub struct Card {
     memory: Vec<u8>,

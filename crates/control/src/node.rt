@@ -203,7 +203,7 @@ fn reply_body(term: u32, reply: Reply) -> Body<Infallible>
     match reply {
         Reply::JoinAck => Body::JoinAck { term },
         Reply::JoinConfirm { start, slot } => {
-            let slot = slot.min(65535) as u16;
+            let slot = u16::try_from(slot).unwrap_or(u16::MAX);
             Body::JoinConfirm { term, start, slot }
         }
         Reply::Eject => Body::Eject { term },

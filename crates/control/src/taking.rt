@@ -14,7 +14,7 @@ pub enum Incoming {
     Child(FromChild),
 }
 
-// A packet as one of a child's, by its type alone.
+// A packet as one of a child's, by its type alone. No TryFrom: another type is no error here.
 fn child_packet(body: &Body<&[u8]>) -> Option<FromChild>
     ensures { result ≡ child_packet (plain_body body.now) }
 {

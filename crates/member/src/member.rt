@@ -10,6 +10,8 @@ use answer::{Outcome, Refusal};
 use std::convert::Infallible;
 use wire::{Body, Hack};
 
+// There is no model: the fields are public, and what `kind` is seen as comes only with the bound `Kind`. Outside, the last
+// start, slot, serial and heard stay, so `standing` is no Option around them.
 #[derive(Drop)]
 pub struct Member<K> {
     pub identity: Identity,

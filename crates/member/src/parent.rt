@@ -18,7 +18,7 @@ impl Upper {
 }
 
 impl FromParent {
-    // A packet as one of the parent's, by its type alone.
+    // A packet as one of the parent's, by its type alone. No TryFrom: another type is no error here.
     pub fn from_body(body: &Body<&[u8]>) -> Option<FromParent>
         ensures { result ≡ parent_packet (plain_body body.now) }
     {

@@ -40,6 +40,7 @@ pub struct Response {
     pub clock: u32,
 }
 
+// A member's answer to its parent. It owes nothing but a HeartbeatResponse, so it is no `Accepted` with any body.
 #[derive(Clone, Copy)]
 pub struct Heard {
     pub outcome: Outcome,

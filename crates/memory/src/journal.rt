@@ -14,7 +14,8 @@ use store::checks::{check_pair, copy_payload};
 use store::{MadeOver, Store};
 
 // `count` records lie in the first `used` bytes; none has a number above `highest`. There is no model: callers see the store
-// by the trait's `meaning`, and the functions below speak of the bytes under it.
+// by the trait's `meaning`, and the functions below speak of the bytes under it. The memory is given once and given
+// back whole, so what is used of it is a length beside it.
 #[derive(Drop)]
 pub struct Journal {
     memory: Vec<u8>,
@@ -68,6 +69,7 @@ fn compact(bytes: &mut [u8], count: usize, number: u32) -> (usize, usize)
     let mut stays = 0;
     let mut to = 0;
     let mut from = 0;
+    // `from` and `to` by hand: no iterator lends what the loop moves.
     for _ in 0..count {
         let record = &bytes[from..];
         let size = HEAD + length_of(record);

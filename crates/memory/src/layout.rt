@@ -9,7 +9,8 @@ pub(crate) const HEAD: usize = 6;
 // The bytes of the longest record: a store has room for one record in each of these.
 pub(crate) const ROOM: usize = 518;
 
-// The number of the record at the front of `record`.
+// The number of the record at the front of `record`. Its six bytes are asked of the slice itself: a struct around it would be
+// made before each look.
 pub(crate) fn number_of(record: &[u8]) -> u32
     requires { 6 ≤ length record.now }
     ensures { result ≡ number_of record.now }

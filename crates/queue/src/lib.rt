@@ -71,6 +71,7 @@ impl<S: Store> Queue<S> {
     pub fn into_store(self) -> S
         ensures { result ≡ self.store }
     {
-        self.store
+        let Queue { store, .. } = self;
+        store
     }
 }

@@ -44,7 +44,7 @@ pub struct Decision {
 }
 
 // A node that decides on a child's packet: whether it is joined, the lowest number that it does not vouch for, and the
-// child's slot.
+// child's slot. `low` is the node's while it is outside too, so `joined` is no Option around it.
 #[derive(Clone, Copy)]
 pub struct Parent {
     pub joined: bool,

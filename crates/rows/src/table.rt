@@ -89,7 +89,7 @@ impl RowTable {
     pub fn lowest(&self) -> Option<(usize, u32)>
         ensures { result ≡ lowest_row (rows_of self.now) }
     {
-        // By a rule of the project the minimum is gathered in a loop, with the row's index.
+        // In a loop, by a rule of the project: the row's index is gathered with the minimum.
         let mut best = None;
         for (slot, row) in self.rows.iter().enumerate() {
             best = lower(best, slot, row);

@@ -8,6 +8,10 @@ use wire::Body;
 pub trait Phase {
     ghost ended: { Self → Bool };
 
+    // Whether the stream has ended.
+    fn is_ended(&self) -> bool
+        ensures { result ≡ ended self.now };
+
     // How far the numbers go, and whether that is the end.
     fn announcement(&self, highest: u32) -> Body<Infallible>
         ensures { result ≡ announcement (ended self.now) highest };
@@ -22,6 +26,10 @@ pub struct AtEnd;
 impl Phase for StillOpen {
     ghost ended = { λ _. false };
 
+    fn is_ended(&self) -> bool {
+        false
+    }
+
     fn announcement(&self, highest: u32) -> Body<Infallible> {
         Body::NullData { highest }
     }
@@ -29,6 +37,10 @@ impl Phase for StillOpen {
 
 impl Phase for AtEnd {
     ghost ended = { λ _. true };
+
+    fn is_ended(&self) -> bool {
+        true
+    }
 
     fn announcement(&self, highest: u32) -> Body<Infallible> {
         Body::Eos { highest }

@@ -10,6 +10,7 @@ use store::Store;
 // `highest` is the last number offered; every number through `released` has been released; `serial` is that of the
 // last report taken. There is no model: a clause may ask for the queue itself, and the meaning of the queue, by which
 // `sender_seen` reads the rest, comes only with the bound `Store`.
+// `SenderSound` is no invariant: `new` takes any address, since no public function has a `requires`.
 #[derive(Drop)]
 pub struct Sender<Q, P> {
     pub(crate) address: Address,

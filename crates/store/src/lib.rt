@@ -11,7 +11,8 @@ pub mod checks;
 pub mod lowest;
 
 // Numbers with their payloads, at most as many as the capacity. `meaning` is all that code above a store may
-// rely on; which bytes of the medium carry it, and what the others are, is free. A number and its payload are two
+// rely on; which bytes of the medium carry it, and what the others are, is free. `has` and `copy` have no body here, since a
+// store need not lie in memory, and none can be asked to lend a payload. A number and its payload are two
 // parameters, as the key and the value are at a map's `insert`.
 pub trait Store {
     ghost meaning: { Self → Meaning };

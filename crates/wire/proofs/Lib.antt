@@ -10,4 +10,3 @@ pub mod HeldWords
 pub mod Lows
 pub mod Decoded
 pub mod MissingWords
-pub mod Trees

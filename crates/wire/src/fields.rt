@@ -3,7 +3,8 @@ ghost use Rattle.std.specs.Prelude.{◌≡◌, ◌+◌, ◌≤◌, length, drop,
 ghost use Rattle.std.specs.List.{range_with_len};
 ghost use Rattle.wire.specs.Fields.{short_at, field_at, overwrite};
 
-// The `N` bytes from `at` on.
+// The `N` bytes from `at` on, by one copy: `first_chunk` would answer an Option and test once more. The two readers below stand
+// for each width, since std has no trait for `from_be_bytes`.
 pub(crate) fn array_at<const N: usize>(bytes: &[u8], at: usize) -> [u8; N]
     requires { at + N ≤ length bytes.now }
     ensures { result ≡ map (λ i. slice_index bytes.now (at + i)) (range_with_len 0 N) }

@@ -34,20 +34,25 @@ fn ones_below(to: u64, from: u64) -> u32
     leading_ones(to.saturating_sub(from).min(32) as u32)
 }
 
+// How many numbers are missing. That the span is the report's stands here and below, and in no struct of the two: only these
+// two functions would read it. They are counted first, so that a refusal writes nothing.
 #[tactic(auto, unfolding(crate::specs::Flags::missing_numbers))]
 fn count_missing(hack: &Hack, span: Span) -> usize
-    requires { (span.lsn ≡ hack.now.lsn) × (span.hsn ≡ hack.now.hsn) }
+    requires low { span.lsn ≡ hack.now.lsn }
+    requires high { span.hsn ≡ hack.now.hsn }
     ensures { result ≡ length (missing_numbers hack.now) }
 {
     span.numbers().filter(|number| !hack.holds(*number)).count()
 }
 
 fn write_missing(hack: &Hack, span: Span, numbers: &mut [u32])
-    requires same { (span.lsn ≡ hack.now.lsn) × (span.hsn ≡ hack.now.hsn) }
+    requires low { span.lsn ≡ hack.now.lsn }
+    requires high { span.hsn ≡ hack.now.hsn }
     requires room { length (missing_numbers hack.now) ≤ length numbers.old }
     ensures { numbers.new ≡ overwrite 0 (missing_numbers hack.now) numbers.old }
 {
     let missing = span.numbers().filter(|number| !hack.holds(*number));
+    // By number: after a borrow by `iter_mut` no proof knows the numbers.
     for (i, number) in missing.enumerate() {
         numbers[i] = number;
     }

@@ -1,5 +1,5 @@
 // What a packet holds: its header, and one of thirteen bodies.
-ghost use Rattle.std.specs.Prelude.{◌≡◌, length};
+ghost use Rattle.std.specs.Prelude.{◌≡◌, length, Decides, bytes_eq};
 ghost use Rattle.wire.specs.Plain.{no_payload, plain_body, plain_packet, bare_packet, map_body};
 
 use std::convert::Infallible;
@@ -9,6 +9,14 @@ use std::convert::Infallible;
 pub struct TreeId(pub [u8; 6]);
 
 impl TreeId {
+    // Whether two are the same tree.
+    pub fn is(self, other: TreeId) -> bool
+        ensures decides { Decides result (self.0 ≡ other.0) }
+        ensures is { result ≡ bytes_eq self.0 other.0 }
+    {
+        self == other
+    }
+
     // The six bytes, in the order of a packet.
     pub fn bytes(self) -> [u8; 6]
         ensures is { result ≡ self.0 }

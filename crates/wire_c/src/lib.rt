@@ -1,5 +1,5 @@
 // A few calls of the codec for programs in C and Rust: each answers one number, which is the refusal's where the codec
-// refuses. The caller passes pointers that are valid for the lengths given with them.
+// refuses: so each call ends in a match of its own. The caller passes pointers that are valid for the lengths given with them.
 #![tactic(auto)]
 
 ghost use Rattle.std.specs.Prelude.{◌≡◌};

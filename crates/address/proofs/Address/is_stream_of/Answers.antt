@@ -1,16 +1,15 @@
 use Rattle.std.proofs.Common.{◌&&◌, eqb, sym, ap, ◌∙◌}
 use Rattle.address.proofs.Bytes.{decides_same}
-use Rattle.wire.proofs.Trees.{same_tree}
 use Rattle.address.proofs.Address.is_stream_of.Goals as goal
 
-pub returns-then-eq : goal.returns-then-eq
-returns-then-eq c =
+pub returns-then-is : goal.returns-then-is
+returns-then-is c =
     let p = c.args.packet.now in
     let i = c.args.self in
-    ap (λ b. b && eqb p.stream i.stream) (sym c.if-eq.true ∙ decides_same c.eq.result p.tree.0 i.tree.0 (same_tree p.tree i.tree c.eq.result c.eq.ensures))
+    ap (λ b. b && eqb p.stream i.stream) (sym c.if-is.true ∙ decides_same c.is.result p.tree.0 i.tree.0 c.is.ensures.decides)
 
-pub returns-else-eq : goal.returns-else-eq
-returns-else-eq c =
+pub returns-else-is : goal.returns-else-is
+returns-else-is c =
     let p = c.args.packet.now in
     let i = c.args.self in
-    c.if-eq.false ∙ ap (λ b. b && eqb p.stream i.stream) (sym c.if-eq.false ∙ decides_same c.eq.result p.tree.0 i.tree.0 (same_tree p.tree i.tree c.eq.result c.eq.ensures))
+    c.if-is.false ∙ ap (λ b. b && eqb p.stream i.stream) (sym c.if-is.false ∙ decides_same c.is.result p.tree.0 i.tree.0 c.is.ensures.decides)

@@ -14,7 +14,7 @@ pub loop-i-init : goal.loop-i-init
 unfolding missing_numbers
 loop-i-init c =
     let h = c.args.hack.now in
-    let numbers = YieldsList-from_range {s = c.numbers.result} h.lsn (h.hsn + 1) (h.hsn + 1 - h.lsn) (c.numbers.ensures ∙ (λ i. record { start = c.requires.same.0 i; end = c.requires.same.1 i + 1 })) refl in
+    let numbers = YieldsList-from_range {s = c.numbers.result} h.lsn (h.hsn + 1) (h.hsn + 1 - h.lsn) (c.numbers.ensures ∙ (λ i. record { start = c.requires.low i; end = c.requires.high i + 1 })) refl in
     let missing = YieldsList-from_filter _ (λ n. not (held_by h n)) (YieldsList-at c.filter-missing.ensures.source numbers) c.filter-missing.ensures.closure (λ x r q k. (λ i. record { 0 = k.called.met.1 i }, let e = k.called.met.0 in search (rules, tests))) in
     record {
       can = search of_calls;
