@@ -9,7 +9,7 @@ use crate::packet_type::{
     DATA, EJECT, EOS, HACK, HEARTBEAT, HEARTBEAT_RESPONSE, JOIN_ACK, JOIN_CONFIRM, JOIN_STREAM,
     LEAVE_CONFIRM, LEAVE_STREAM, NULL_DATA, RETRANSMISSION,
 };
-use crate::ranges::{at_least_one, check_payload, header_in_range, ranged_highest, ranged_slot};
+use crate::ranges::{at_least_one, check_header, check_payload, ranged_highest, ranged_slot};
 use crate::reading_hack::hack_at;
 use answer::Refusal;
 
@@ -138,9 +138,7 @@ impl<'a> Framed<'a> {
         let bytes = self.bytes;
         let stream = u16_at(bytes, 8);
         let writer = u16_at(bytes, 10);
-        if !header_in_range(stream, writer) {
-            return Err(Refusal::OutOfRange);
-        }
+        check_header(stream, writer)?;
         Ok(Message {
             tree: TreeId(array_at(bytes, 2)),
             stream,

@@ -63,8 +63,10 @@ impl Hack {
     pub(crate) fn ranged_span(&self) -> Result<Span, Refusal>
         ensures { MatchResult result (λ span. (span.lsn ≡ self.now.lsn) × (span.hsn ≡ self.now.hsn) × (hack_in_range self.now ≡ true)) (λ e. (e ≡ OutOfRange) × (hack_in_range self.now ≡ false)) }
     {
-        let span = Span::checked(self.lsn, self.hsn).ok_or(Refusal::OutOfRange)?;
-        if self.term > 0 && self.serial > 0 && span.low_flag_clear(self.flags[0]) {
+        let span = Span::of_report(self.term, self.serial, self.lsn, self.hsn).ok_or(
+            Refusal::OutOfRange,
+        )?;
+        if span.low_flag_clear(self.flags[0]) {
             Ok(span)
         } else {
             Err(Refusal::OutOfRange)

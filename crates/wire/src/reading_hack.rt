@@ -43,12 +43,8 @@ pub(crate) fn hack_at(bytes: &[u8]) -> Result<Hack, Refusal>
     let serial = u32_at(bytes, 20);
     let lsn = u32_at(bytes, 24);
     let hsn = u32_at(bytes, 28);
-    let span = Span::checked(lsn, hsn).ok_or(Refusal::OutOfRange)?;
-    if term == 0
-        || serial == 0
-        || u32_at(bytes, 32) != lsn - 1
-        || u16_at(bytes, 36) as u32 != span.word_count()
-    {
+    let span = Span::of_report(term, serial, lsn, hsn).ok_or(Refusal::OutOfRange)?;
+    if u32_at(bytes, 32) != lsn - 1 || u16_at(bytes, 36) as u32 != span.word_count() {
         return Err(Refusal::OutOfRange);
     }
     let flags = flags_at(bytes, span);

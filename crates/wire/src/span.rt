@@ -1,7 +1,7 @@
 // The numbers that a HACK reports on, and the words that hold their flags.
 ghost use Rattle.std.specs.Prelude.{◌≡◌, ◌+◌, ◌^◌, ◌-◌, ◌<◌, ◌≤◌, is_some, IfSome};
 ghost use Rattle.wire.specs.Flags.{word_count, canonical_word};
-ghost use Rattle.wire.specs.Ranges.{span_in_range, low_flag_clear};
+ghost use Rattle.wire.specs.Ranges.{hack_fields_in_range, span_in_range, low_flag_clear};
 
 use crate::flags::{flag_is_set, leading_ones};
 use std::ops::Range;
@@ -18,7 +18,7 @@ pub(crate) struct Span {
 }
 
 impl Span {
-    pub(crate) fn checked(lsn: u32, hsn: u32) -> Option<Span>
+    fn checked(lsn: u32, hsn: u32) -> Option<Span>
         ensures ranged { is_some result ≡ span_in_range lsn hsn }
         ensures same { IfSome result (λ span. (span.lsn ≡ lsn) × (span.hsn ≡ hsn)) }
     {
@@ -27,6 +27,17 @@ impl Span {
         } else {
             None
         }
+    }
+
+    // The span of a report, unless one of its four fields is outside its range.
+    pub(crate) fn of_report(term: u32, serial: u32, lsn: u32, hsn: u32) -> Option<Span>
+        ensures ranged { is_some result ≡ hack_fields_in_range term serial lsn hsn }
+        ensures same { IfSome result (λ span. (span.lsn ≡ lsn) × (span.hsn ≡ hsn)) }
+    {
+        if term == 0 || serial == 0 {
+            return None;
+        }
+        Span::checked(lsn, hsn)
     }
 
     pub(crate) fn numbers(self) -> Range<u32>

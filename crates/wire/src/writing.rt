@@ -14,7 +14,7 @@ use crate::packet_type::{
     DATA, EJECT, EOS, HACK, HEARTBEAT, HEARTBEAT_RESPONSE, JOIN_ACK, JOIN_CONFIRM, JOIN_STREAM,
     LEAVE_CONFIRM, LEAVE_STREAM, NULL_DATA, RETRANSMISSION,
 };
-use crate::ranges::{at_least_one, check_payload, header_in_range, ranged_highest, ranged_slot};
+use crate::ranges::{at_least_one, check_header, check_payload, ranged_highest, ranged_slot};
 use crate::writing_hack::write_hack;
 use answer::Refusal;
 
@@ -169,9 +169,7 @@ fn write_header(packet: &Packet<'_>, out: &mut [u8])
 pub fn check_write(packet: &Packet<'_>, out: &[u8]) -> Result<usize, Refusal>
     ensures { result ≡ write_answer (packet_in_range (plain_packet packet.now)) (encode (plain_packet packet.now)) out.now }
 {
-    if !header_in_range(packet.stream, packet.writer) {
-        return Err(Refusal::OutOfRange);
-    }
+    check_header(packet.stream, packet.writer)?;
     let size = 16 + ranged_length(&packet.body)?;
     if out.len() < size {
         return Err(Refusal::ShortOutput);
