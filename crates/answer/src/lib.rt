@@ -89,7 +89,7 @@ pub enum Outcome {
 }
 
 // The answer of a deliver that is not refused. `reply` bytes of the caller's buffer are the reply; 0 bytes are no reply.
-#[derive(Clone, Copy)]
+#[derive(Clone, Copy, PartialEq, Eq, Debug)]
 pub struct Delivered {
     pub outcome: Outcome,
     pub reply: usize,

@@ -34,13 +34,13 @@ pub enum FromParent {
 }
 
 // The HeartbeatResponse that is owed for a Heartbeat.
-#[derive(Clone, Copy)]
+#[derive(Clone, Copy, PartialEq, Eq, Debug)]
 pub struct Response {
     pub term: u32,
     pub clock: u32,
 }
 
-#[derive(Clone, Copy)]
+#[derive(Clone, Copy, PartialEq, Eq, Debug)]
 pub struct Heard {
     pub outcome: Outcome,
     pub response: Option<Response>,
