@@ -90,7 +90,7 @@ pub enum Outcome {
 
 // The answer of a deliver that is not refused. `reply` bytes of the caller's buffer are the reply. It is no
 // Option: the caller sends the first `reply` bytes either way, and where there is no reply these are none.
-#[derive(Clone, Copy)]
+#[derive(Clone, Copy, PartialEq, Eq, Debug)]
 pub struct Delivered {
     pub outcome: Outcome,
     pub reply: usize,

@@ -34,14 +34,14 @@ pub enum FromParent {
 }
 
 // The HeartbeatResponse that is owed for a Heartbeat.
-#[derive(Clone, Copy)]
+#[derive(Clone, Copy, PartialEq, Eq, Debug)]
 pub struct Response {
     pub term: u32,
     pub clock: u32,
 }
 
 // A member's answer to its parent. It owes nothing but a HeartbeatResponse, so it is no `Accepted` with any body.
-#[derive(Clone, Copy)]
+#[derive(Clone, Copy, PartialEq, Eq, Debug)]
 pub struct Heard {
     pub outcome: Outcome,
     pub response: Option<Response>,

@@ -3,7 +3,7 @@ use address::Address;
 use answer::{Outcome, Refusal};
 use control::kind::Rows;
 use member::member::Member;
-use member::types::{FromParent, Heard, Identity, Standing, Upper};
+use member::types::{FromParent, Heard, Identity, Response, Standing, Upper};
 use rows::row::FromChild;
 use rows::table::RowTable;
 use std::alloc::Global;
@@ -185,8 +185,11 @@ fn reports(rt: HostRuntime) -> Result<(), Fail> {
 
 // The answer to a packet that gets no response.
 fn expect(rt: &impl Abort, heard: Heard, outcome: Outcome) {
-    assert_eq!(rt; heard.outcome, outcome);
-    assert!(rt; heard.response.is_none());
+    let expected = Heard {
+        outcome,
+        response: None,
+    };
+    assert_eq!(rt; heard, expected);
 }
 
 #[test]
@@ -311,10 +314,7 @@ fn packets_when_joined(rt: HostRuntime) -> Result<(), Fail> {
     );
     assert_eq!(rt; node.heard, 1000);
     let heard = node.take(FromParent::Heartbeat { clock: 9 }, 2000);
-    let told = heard
-        .response
-        .map(|response| (response.term, response.clock));
-    assert_eq!(rt; told, Some((1, 9)));
+    assert_eq!(rt; heard.response, Some(Response { term: 1, clock: 9 }));
     assert_eq!(rt; node.heard, 2000);
     expect(
         &rt,

@@ -31,14 +31,23 @@ fn node(heap: Global) -> Result<Control, Fail> {
     Ok(Control::new(NODE, RowTable::new(heap, &[7, 8])?))
 }
 
-type Told = Result<(Outcome, usize), Refusal>;
+type Told = Result<Delivered, Refusal>;
 
-// What became of a packet, and the reply's length.
-fn told(answer: Result<Delivered, Refusal>) -> Told {
-    answer.map(|delivered| (delivered.outcome, delivered.reply))
+// What is told of a packet that was taken, with a reply of so many bytes.
+fn taken(reply: usize) -> Told {
+    Ok(Delivered {
+        outcome: Outcome::Taken,
+        reply,
+    })
 }
 
-const TAKEN: Told = Ok((Outcome::Taken, 0));
+// The same of a stale packet.
+fn stale(reply: usize) -> Told {
+    Ok(Delivered {
+        outcome: Outcome::Stale,
+        reply,
+    })
+}
 
 // Brings a packet to the node.
 fn bring(
@@ -53,7 +62,7 @@ fn bring(
         &Packet::bare(ADDRESS.tree, 40000, writer, 0, body),
         &mut bytes,
     )?;
-    Ok(told(node.deliver(clock, &bytes[0..len.min(74)], reply)))
+    Ok(node.deliver(clock, &bytes[0..len.min(74)], reply))
 }
 
 // Joined at term 1 from number 38 on, in slot 3.
@@ -66,7 +75,7 @@ fn joined(rt: &impl Abort, heap: Global) -> Result<Control, Fail> {
         start: 38,
         slot: 3,
     };
-    assert_eq!(rt; bring(&mut node, 0, 2, confirm, &mut out)?, TAKEN);
+    assert_eq!(rt; bring(&mut node, 0, 2, confirm, &mut out)?, taken(0));
     Ok(node)
 }
 
@@ -156,40 +165,28 @@ fn deliver_refuses(rt: HostRuntime) -> Result<(), Fail> {
     let mut bytes = [0u8; 20];
     let ask = Body::JoinStream { term: 1 };
     assert_eq!(rt;
-        told(node.deliver(0, &bytes[0..15], &mut [])),
+        node.deliver(0, &bytes[0..15], &mut []),
         Err(Refusal::ShortPacket)
     );
     let _ = write(&Packet::bare(TreeId([0; 6]), 40000, 99, 6, ask), &mut bytes)?;
-    assert_eq!(rt;
-        told(node.deliver(0, &bytes, &mut [])),
-        Err(Refusal::OtherStream)
-    );
+    assert_eq!(rt; node.deliver(0, &bytes, &mut []), Err(Refusal::OtherStream));
     let _ = write(&Packet::bare(ADDRESS.tree, 40001, 99, 6, ask), &mut bytes)?;
-    assert_eq!(rt;
-        told(node.deliver(0, &bytes, &mut [])),
-        Err(Refusal::OtherStream)
-    );
+    assert_eq!(rt; node.deliver(0, &bytes, &mut []), Err(Refusal::OtherStream));
     let _ = write(&Packet::bare(ADDRESS.tree, 40000, 99, 6, ask), &mut bytes)?;
     assert_eq!(rt;
-        told(node.deliver(0, &bytes, &mut [])),
+        node.deliver(0, &bytes, &mut []),
         Err(Refusal::OtherAddressee)
     );
     let _ = write(&Packet::bare(ADDRESS.tree, 40000, 2, 5, ask), &mut bytes)?;
-    assert_eq!(rt;
-        told(node.deliver(0, &bytes, &mut [])),
-        Err(Refusal::NotTaken)
-    );
+    assert_eq!(rt; node.deliver(0, &bytes, &mut []), Err(Refusal::NotTaken));
     let _ = write(&Packet::bare(ADDRESS.tree, 40000, 7, 5, ask), &mut bytes)?;
     let mut reply = [170u8; 26];
     assert_eq!(rt;
-        told(node.deliver(0, &bytes, &mut reply[0..25])),
+        node.deliver(0, &bytes, &mut reply[0..25]),
         Err(Refusal::ShortOutput)
     );
     assert!(rt; reply == [170u8; 26]);
-    assert_eq!(rt;
-        told(node.deliver(0, &bytes, &mut reply)),
-        Ok((Outcome::Stale, 20))
-    );
+    assert_eq!(rt; node.deliver(0, &bytes, &mut reply), stale(20));
     Ok(())
 }
 
@@ -201,12 +198,13 @@ fn reports_of_two(rt: HostRuntime) -> Result<(), Fail> {
     assert_eq!(rt; node.report(&mut out), Err(Refusal::NoLiveRow));
     assert_eq!(rt;
         bring(&mut node, 10, 7, Body::JoinStream { term: 1 }, &mut out)?,
-        Ok((Outcome::Taken, 26))
+        taken(26)
     );
+    // Byte 1 is the packet's type, by the numbers of docs/PROTOCOL.md: these cases look at the bytes.
     assert!(rt; out[1] == 6 && out[13] == 7 && out[23] == 38 && out[25] == 0);
     assert_eq!(rt;
         bring(&mut node, 10, 8, Body::JoinStream { term: 1 }, &mut out)?,
-        Ok((Outcome::Taken, 26))
+        taken(26)
     );
     assert!(rt; out[13] == 8 && out[25] == 1);
     let first = Hack {
@@ -218,7 +216,7 @@ fn reports_of_two(rt: HostRuntime) -> Result<(), Fail> {
     };
     assert_eq!(rt;
         bring(&mut node, 20, 7, Body::Hack(first), &mut out)?,
-        TAKEN
+        taken(0)
     );
     let second = Hack {
         term: 1,
@@ -229,7 +227,7 @@ fn reports_of_two(rt: HostRuntime) -> Result<(), Fail> {
     };
     assert_eq!(rt;
         bring(&mut node, 20, 8, Body::Hack(second), &mut out)?,
-        TAKEN
+        taken(0)
     );
     assert_eq!(rt; node.report(&mut out), Ok(46));
     assert!(rt;
@@ -246,12 +244,12 @@ fn child_rejoins(rt: HostRuntime) -> Result<(), Fail> {
     let mut out = [0u8; 74];
     assert_eq!(rt;
         bring(&mut node, 0, 7, Body::JoinStream { term: 1 }, &mut out)?,
-        Ok((Outcome::Taken, 26))
+        taken(26)
     );
     node.tick(5000);
     assert_eq!(rt;
         bring(&mut node, 5000, 2, Body::Heartbeat { clock: 9 }, &mut out)?,
-        Ok((Outcome::Taken, 24))
+        taken(24)
     );
     node.tick(5001);
     assert_eq!(rt;
@@ -262,16 +260,16 @@ fn child_rejoins(rt: HostRuntime) -> Result<(), Fail> {
             Body::HeartbeatResponse { term: 1, clock: 9 },
             &mut out,
         )?,
-        Ok((Outcome::Stale, 20))
+        stale(20)
     );
     assert_eq!(rt;
         bring(&mut node, 5001, 7, Body::JoinStream { term: 1 }, &mut out)?,
-        Ok((Outcome::Stale, 20))
+        stale(20)
     );
     assert!(rt; out[1] == 10);
     assert_eq!(rt;
         bring(&mut node, 5001, 7, Body::JoinStream { term: 2 }, &mut out)?,
-        Ok((Outcome::Taken, 26))
+        taken(26)
     );
     let old = Hack {
         term: 1,
@@ -282,7 +280,7 @@ fn child_rejoins(rt: HostRuntime) -> Result<(), Fail> {
     };
     assert_eq!(rt;
         bring(&mut node, 5002, 7, Body::Hack(old), &mut out)?,
-        Ok((Outcome::Stale, 20))
+        stale(20)
     );
     Ok(())
 }

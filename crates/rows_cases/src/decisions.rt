@@ -23,7 +23,7 @@ const REPORT: Hack = Hack {
     flags: [0; 9],
 };
 
-// What the cases look at in the row of child 9.
+// The part of a row that a case looks at.
 #[derive(Clone, Copy, PartialEq, Eq, Debug)]
 struct Seen {
     child: u16,

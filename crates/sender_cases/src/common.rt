@@ -52,16 +52,17 @@ pub(crate) fn report(serial: u32, lsn: u32, hsn: u32, first: u32) -> Hack {
     }
 }
 
-// What became of a packet, or why it was refused.
-pub(crate) type Answer = Result<Outcome, Refusal>;
+pub(crate) type Told = Result<Delivered, Refusal>;
 
-pub(crate) const STALE: Answer = Ok(Outcome::Stale);
+pub(crate) const STALE: Told = Ok(Delivered {
+    outcome: Outcome::Stale,
+    reply: 0,
+});
 
-pub(crate) const TAKEN: Answer = Ok(Outcome::Taken);
-
-pub(crate) fn told(answer: Result<Delivered, Refusal>) -> Answer {
-    answer.map(|delivered| delivered.outcome)
-}
+pub(crate) const TAKEN: Told = Ok(Delivered {
+    outcome: Outcome::Taken,
+    reply: 0,
+});
 
 // Brings a packet to the sender. Its reply buffer stays as it was.
 pub(crate) fn bring<Q: Store, P: Phase>(
@@ -70,12 +71,12 @@ pub(crate) fn bring<Q: Store, P: Phase>(
     writer: u16,
     addressee: u16,
     body: Body<Infallible>,
-) -> Result<Answer, Fail> {
+) -> Result<Told, Fail> {
     let mut bytes = [0u8; 74];
     let packet = Packet::bare(SENDER.tree, SENDER.stream, writer, addressee, body);
     let len = write(&packet, &mut bytes)?;
     let mut reply = [9u8; 26];
     let answer = sender.deliver(&bytes[0..len.min(74)], &mut reply);
     assert_eq!(rt; reply, [9u8; 26]);
-    Ok(told(answer))
+    Ok(answer)
 }

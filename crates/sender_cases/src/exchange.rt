@@ -1,5 +1,5 @@
 // The sender's part of the protocol's worked exchange, byte by byte: sender 100 (0064), top 200 (00C8).
-use crate::common::{TAKEN, told};
+use crate::common::TAKEN;
 use address::Address;
 use memory::journal::Journal;
 use sender::{Open, Sender};
@@ -47,11 +47,11 @@ fn as_in_the_protocol(rt: HostRuntime) -> Result<(), Fail> {
     let mut sender = Sender::new(ADDRESS, 200, Journal::new(vec![in rt.alloc(); 0u8; 5180]?));
     offer_two(&rt, &mut sender);
     let mut reply = [0u8; 26];
-    assert_eq!(rt; told(sender.deliver(&FIRST_REPORT, &mut reply)), TAKEN);
+    assert_eq!(rt; sender.deliver(&FIRST_REPORT, &mut reply), TAKEN);
     assert_eq!(rt; sender.released(), 0);
     assert!(rt; sender.wanted().wants(1));
     assert!(rt; !sender.wanted().wants(2));
-    assert_eq!(rt; told(sender.deliver(&SECOND_REPORT, &mut reply)), TAKEN);
+    assert_eq!(rt; sender.deliver(&SECOND_REPORT, &mut reply), TAKEN);
     assert_eq!(rt; sender.released(), 2);
     assert!(rt; !sender.wanted().wants(1));
     let sender = sender.end();

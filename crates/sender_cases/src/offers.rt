@@ -28,7 +28,7 @@ fn makings(rt: HostRuntime) {
     assert_eq!(rt; check_making(low, TOP), Err(Refusal::OutOfRange));
 }
 
-// 256 on their way, then none more until a report releases one.
+// 256 on their way, then none more until a report releases one. `kind` names the store in messages, since a type has no name.
 fn fills_the_window<Q: MadeOver + Drop>(
     rt: &impl Abort,
     kind: &str,
@@ -129,6 +129,7 @@ fn announces<Q: MadeOver + Drop>(rt: &impl Abort, kind: &str, heap: Global) -> R
     );
     assert_eq!(rt; out, [9u8; 21], "{kind}");
     assert_eq!(rt; sender.announce(&mut out), Ok(20), "{kind}");
+    // Byte 1 is the packet's type, by the numbers of docs/PROTOCOL.md: these cases look at the bytes.
     assert_eq!(rt; [out[1], out[19], out[20]], [9u8, 0, 9], "{kind}");
     offer_some(rt, &mut sender, 2);
     assert_eq!(rt; sender.announce(&mut out), Ok(20), "{kind}");

@@ -1,5 +1,5 @@
 // Reports of the top, taken and stale, and packets that are refused.
-use crate::common::{SENDER, STALE, TAKEN, TOP, bring, offer_some, open, report, told};
+use crate::common::{SENDER, STALE, TAKEN, TOP, bring, offer_some, open, report};
 use answer::Refusal;
 use memory::journal::Journal;
 use memory::slots::SlotStore;
@@ -33,7 +33,8 @@ fn check_reported<Q: Store + Drop>(rt: &impl Abort, sender: Open<Q>) {
     );
 }
 
-// Too old in each of the four ways: the term, the serial, the stable, and an HSN that was never offered.
+// Too old in each of the four ways: the term, the serial, the stable, and an HSN that was never offered. `kind` names the
+// store in messages, since a type has no name.
 fn old_in_each_way<Q: MadeOver + Drop>(
     rt: &impl Abort,
     kind: &str,
@@ -91,35 +92,26 @@ fn nothing_missing(rt: HostRuntime) -> Result<(), Fail> {
 fn refused_packets(rt: HostRuntime) -> Result<(), Fail> {
     let mut sender = reported::<Journal>(&rt, rt.alloc())?;
     assert_eq!(rt;
-        told(sender.deliver(&[1, 2, 3], &mut [])),
+        sender.deliver(&[1, 2, 3], &mut []),
         Err(Refusal::ShortPacket)
     );
     let fresh = Body::Hack(report(6, 4, 3, 0));
     let mut bytes = [0u8; 38];
     let other_tree = Packet::bare(TreeId([1, 2, 3, 4, 5, 7]), 40000, 201, 101, fresh);
     assert_eq!(rt; write(&other_tree, &mut bytes), Ok(38));
-    assert_eq!(rt;
-        told(sender.deliver(&bytes, &mut [])),
-        Err(Refusal::OtherStream)
-    );
+    assert_eq!(rt; sender.deliver(&bytes, &mut []), Err(Refusal::OtherStream));
     let other_stream = Packet::bare(SENDER.tree, 40001, 201, 101, fresh);
     assert_eq!(rt; write(&other_stream, &mut bytes), Ok(38));
-    assert_eq!(rt;
-        told(sender.deliver(&bytes, &mut [])),
-        Err(Refusal::OtherStream)
-    );
+    assert_eq!(rt; sender.deliver(&bytes, &mut []), Err(Refusal::OtherStream));
     let other_node = Packet::bare(SENDER.tree, 40000, 201, 101, fresh);
     assert_eq!(rt; write(&other_node, &mut bytes), Ok(38));
     assert_eq!(rt;
-        told(sender.deliver(&bytes, &mut [])),
+        sender.deliver(&bytes, &mut []),
         Err(Refusal::OtherAddressee)
     );
     let other_writer = Packet::bare(SENDER.tree, 40000, 201, 100, fresh);
     assert_eq!(rt; write(&other_writer, &mut bytes), Ok(38));
-    assert_eq!(rt;
-        told(sender.deliver(&bytes, &mut [])),
-        Err(Refusal::NotTaken)
-    );
+    assert_eq!(rt; sender.deliver(&bytes, &mut []), Err(Refusal::NotTaken));
     assert_eq!(rt;
         bring(&rt, &mut sender, TOP, 100, Body::Heartbeat { clock: 1 })?,
         Err(Refusal::NotTaken)
@@ -127,7 +119,7 @@ fn refused_packets(rt: HostRuntime) -> Result<(), Fail> {
     let good = Packet::bare(SENDER.tree, 40000, TOP, 100, fresh);
     assert_eq!(rt; write(&good, &mut bytes), Ok(38));
     assert_eq!(rt;
-        told(sender.deliver(&bytes, &mut [0u8; 25])),
+        sender.deliver(&bytes, &mut [0u8; 25]),
         Err(Refusal::ShortOutput)
     );
     check_reported(&rt, sender);

@@ -11,10 +11,13 @@ mod tests {
     use std::alloc::Global;
     use std::process::Abort;
     use std::test::Fail;
-    use store::checks::LAST;
     use store::{MadeOver, Store};
 
-    // One call, and what it must answer. A payload's bytes follow from its number.
+    // Written out: what is expected does not come from the code.
+    const LAST: u32 = 4_294_967_294;
+
+    // One call, and what it must answer. A payload's bytes follow from its number. An enum and no closures: each list of steps
+    // runs over three types of store.
     #[derive(Clone, Copy)]
     enum Step {
         Put(u32, usize, Result<(), Refusal>),
@@ -143,7 +146,8 @@ mod tests {
         store.put(number, &payload[..len.min(513)])
     }
 
-    // Bytes beyond the payload, and all of them on a refusal, stay as they were.
+    // Bytes beyond the payload, and all of them on a refusal, stay as they were. `kind` names the store in messages, since a
+    // type has no name.
     fn copy<S: Store>(
         rt: &impl Abort,
         kind: &str,

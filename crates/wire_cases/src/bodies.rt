@@ -75,10 +75,7 @@ fn packet(body: Body<&[u8]>) -> Packet<'_> {
 // Whether a packet is written as just these bytes.
 fn is_written_as(packet: &Packet<'_>, bytes: &[u8]) -> bool {
     let mut out = [0xa5u8; 80];
-    match write(packet, &mut out) {
-        Ok(len) => len < 80 && &out[..len] == bytes && out[len] == 0xa5,
-        Err(_) => false,
-    }
+    write(packet, &mut out).is_ok_and(|len| len < 80 && &out[..len] == bytes && out[len] == 0xa5)
 }
 
 #[test]
@@ -92,22 +89,18 @@ fn each_body_is_its_bytes(rt: HostRuntime) -> Result<(), Fail> {
 
 #[test]
 fn header_is_read(rt: HostRuntime) -> Result<(), Fail> {
-    let packet = read(JOIN_STREAM)?;
-    assert!(rt; packet.tree == TreeId([1, 2, 3, 4, 5, 6]));
-    assert!(rt; packet.stream == 32769 && packet.writer == 7 && packet.addressee == 9);
-    assert!(rt; matches!(packet.body, Body::JoinStream { term: 2 }));
+    assert_eq!(rt; read(JOIN_STREAM)?, packet(Body::JoinStream { term: 2 }));
     Ok(())
 }
 
 #[test]
 fn payload_is_lent(rt: HostRuntime) -> Result<(), Fail> {
-    match read(DATA)?.body {
-        Body::Data { number, payload } => {
-            assert!(rt; number == 5 && payload == b"abc".as_slice());
-            Ok(())
-        },
-        _ => Err(Fail::new("not Data")),
-    }
+    let lent: Body<&[u8]> = Body::Data {
+        number: 5,
+        payload: b"abc",
+    };
+    assert_eq!(rt; read(DATA)?.body, lent);
+    Ok(())
 }
 
 #[test]
@@ -121,13 +114,8 @@ fn longest_payload(rt: HostRuntime) -> Result<(), Fail> {
     assert_eq!(rt; write(&packet(longest), &mut short), Err(ShortOutput));
     let mut out = [0u8; 534];
     assert_eq!(rt; write(&packet(longest), &mut out), Ok(534));
-    match read(&out)?.body {
-        Body::Data { number, payload } => {
-            assert!(rt; number == u32::MAX - 1 && payload.len() == 512);
-            Ok(())
-        },
-        _ => Err(Fail::new("not Data")),
-    }
+    assert_eq!(rt; read(&out)?, packet(longest));
+    Ok(())
 }
 
 #[test]

@@ -4,7 +4,10 @@ use crate::vectors::{
     LEAVE_CONFIRM, LEAVE_STREAM, NULL_DATA, RETRANSMISSION, copy_front,
 };
 use answer::Refusal;
-use answer::Refusal::{BadHeader, LengthMismatch, OutOfRange, ShortPacket, UnknownType};
+use answer::Refusal::{
+    BadHeader, LengthMismatch, NotTaken, OtherAddressee, OtherStream, OutOfRange, ShortOutput,
+    ShortPacket, UnknownType, WrongStanding,
+};
 use wire::read;
 
 fn change(bytes: &mut [u8], changes: &[(usize, u8)]) {
@@ -216,5 +219,26 @@ fn hack_answer(lsn: u32, hsn: u32, count: u16, len: usize) -> Option<Refusal> {
 fn hacks(rt: HostRuntime) {
     for (lsn, hsn, count, len, expected) in HACKS {
         assert_eq!(rt; hack_answer(lsn, hsn, count, len), expected);
+    }
+}
+
+// The number of each refusal of a packet.
+const NUMBERS: [(Refusal, u8); 10] = [
+    (ShortPacket, 7),
+    (BadHeader, 8),
+    (UnknownType, 9),
+    (LengthMismatch, 10),
+    (OutOfRange, 11),
+    (ShortOutput, 12),
+    (OtherStream, 13),
+    (OtherAddressee, 14),
+    (NotTaken, 15),
+    (WrongStanding, 16),
+];
+
+#[test]
+fn numbers_of_refusals(rt: HostRuntime) {
+    for (refusal, number) in NUMBERS {
+        assert_eq!(rt; refusal.number(), number);
     }
 }

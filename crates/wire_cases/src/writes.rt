@@ -15,20 +15,11 @@ const REPORT: Hack = Hack {
 
 // The flag of LSN 40 is at position 8 of the first word.
 const LOW_FLAG: Hack = Hack {
-    term: 1,
-    serial: 1,
-    lsn: 40,
-    hsn: 72,
     flags: [0x0080_0000, 0, 0, 0, 0, 0, 0, 0, 0],
+    ..REPORT
 };
 
-const NO_TERM: Hack = Hack {
-    term: 0,
-    serial: 1,
-    lsn: 40,
-    hsn: 72,
-    flags: [0; 9],
-};
+const NO_TERM: Hack = Hack { term: 0, ..REPORT };
 
 // Writes to so many bytes, which a refusal leaves as they are.
 fn refusal_of(rt: &impl Abort, packet: &Packet<'_>, room: usize) -> Option<Refusal> {
