@@ -2,7 +2,7 @@
 use Rattle.std.specs.Prelude.{◌≡◌, ℕ, zero, suc, ◌+◌, ◌-◌, ◌*◌, ◌/◌, ◌%◌, ◌<◌, ◌≤◌, Bool, true, false, cond, ◌&&◌, List, [], ◌∷◌, ◌++◌, length, take, drop, replicate, slice_index, ◌==◌, ◌≢◌, nat_eq, refl}
 use Rattle.std.proofs.Common.{sym, ap, subst, ◌∙◌, inl, inr, arith, add-one, below_more}
 use Rattle.std.proofs.Math.Seq.{paste}
-use Rattle.std.proofs.lemmas.List.{append-nil, append_assoc, length-append, length-drop, length-replicate, get_or-replicate, get_or-drop, get_or_past, drop-drop, drop_at, take_at, take_all, take-take}
+use Rattle.std.proofs.lemmas.List.{append-nil, append_assoc, length-append, length-drop, length-replicate, nil_from_length, get_or-replicate, get_or-drop, get_or_past, drop-drop, drop_at, take_at, take_all, take-take}
 use Rattle.std.proofs.lemmas.List.Edits.{length-paste}
 use Rattle.std.proofs.lemmas.Bool.{both_ways, cases_eq, cases_lt, eq-eqb, eqb-true, ne_eqb, cond-true, cond-false, and_parts}
 use Rattle.std.proofs.lemmas.Bool.Decides.{nat_tests}
@@ -356,10 +356,25 @@ length_zeros m n =
     let a = get_or-drop m (replicate n 0) 4 0 ∙ zero_at n (m + 4) in
     let b = get_or-drop m (replicate n 0) 5 0 ∙ zero_at n (m + 5) in omega arith
 
-pub turned_empty : (bs new : List ℕ) → new ≡ replicate (length bs) 0 → Turned bs new 0 true []
-turned_empty bs new zeros =
+-- slots that hold nothing are at home
+home_none : (count n k : ℕ) (bs : List ℕ) → k < n → slots n bs ≡ [] → home count k (one (slot k bs)) ≡ true
+home_none count zero k bs l e = absurd (omega arith)
+home_none count (suc n) k bs l e =
+    let a = length-append (slots n bs) (one (slot n bs)) in
+    let z = ap length e in
+    elim (cases_eq k n) [
+      | inl same ↦ subst (λ j. home count j (one (slot j bs)) ≡ true) (sym same) (ap (home count n) (nil_from_length (one (slot n bs)) (omega arith)))
+      | inr ne ↦ home_none count n k bs (omega arith) (nil_from_length (slots n bs) (omega arith))
+    ]
+
+pub turned_empty : (bs new : List ℕ) → length new ≡ length bs → Short (slot_count bs) new → slots (slot_count bs) new ≡ [] → Turned bs new 0 true []
+turned_empty bs new long short e =
+    turned bs new 0 true [] long short (ap distinct e) (ap length (sym e))
+    (λ f k lk. home_none (slot_count bs) (slot_count bs) k new lk e)
+    (ap in_order e)
+
+-- and so with all bytes 0
+pub turned_zeros : (bs new : List ℕ) → new ≡ replicate (length bs) 0 → Turned bs new 0 true []
+turned_zeros bs new zeros =
     let free : (k : ℕ) → length_of (slot k new) ≡ 0 = λ k. ap (λ xs. length_of (slot k xs)) zeros ∙ length_zeros (k * 518) (length bs) in
-    let none = none_held (slot_count bs) new (λ k l. free k) in
-    turned bs new 0 true [] (ap length zeros ∙ length-replicate (length bs) 0) (λ k l. omega (arith, free k)) (ap distinct none) (ap length (sym none))
-    (λ f k lk. ap (home (slot_count bs) k) (one_free (slot k new) (free k)))
-    (ap in_order none)
+    turned_empty bs new (ap length zeros ∙ length-replicate (length bs) 0) (λ k l. omega (arith, free k)) (none_held (slot_count bs) new (λ k l. free k))
