@@ -1,4 +1,5 @@
-// A queue and a station's archive: records are offered, archived out of order, and released.
+// A queue and a station's archive: records are offered, archived out of order, and released. Each step ends in a match of its
+// own, which prints what that step did.
 use crate::packets::{arrive, carry};
 use crate::tell_refusal;
 use queue::Queue;

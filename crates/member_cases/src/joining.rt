@@ -1,3 +1,4 @@
+// Each packet by itself, so that a failure names its line.
 // A control node, number 5 below node 2, with children 7 and 8. Node 2 with node 1 above is the top.
 use address::Address;
 use answer::{Outcome, Refusal};

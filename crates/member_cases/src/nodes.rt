@@ -49,7 +49,7 @@ fn stale(reply: usize) -> Told {
     })
 }
 
-// Brings a packet to the node.
+// Brings a packet to the node. The bytes lie on the stack with a length beside: a heap would be one more thing to pass.
 fn bring(
     node: &mut Control,
     clock: u32,

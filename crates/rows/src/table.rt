@@ -43,7 +43,7 @@ impl RowTable {
         &mut self.rows[slot]
     }
 
-    // Every row dies.
+    // Every row dies. This and the next are two loops: one helper with the step as a closure would be longer than both.
     pub fn kill_all(&mut self)
         ensures { rows_of self.new ≡ map dead_row (rows_of self.old) }
     {

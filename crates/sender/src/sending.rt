@@ -24,6 +24,7 @@ impl<Q: Store> Sender<Q, StillOpen> {
         ensures keeps { SenderSound (open_seen Q.Store.meaning self.old) → SenderSound (open_seen Q.Store.meaning self.new) }
         ensures in_range { SenderSound (open_seen Q.Store.meaning self.old) → result ≢ Err OutOfRange }
     {
+        // The store's test, under a refusal of its own.
         if payload.is_empty() || payload.len() > LONGEST {
             return Err(Refusal::BadPayload);
         }
@@ -34,6 +35,7 @@ impl<Q: Store> Sender<Q, StillOpen> {
             return Err(Refusal::Exhausted);
         }
         let number = self.highest + 1;
+        // Spelled out, since `write_to` writes bodies without a payload.
         let packet = Message {
             tree: self.address.tree,
             stream: self.address.stream,

@@ -17,7 +17,7 @@ pub mod lowest;
 pub trait Store {
     ghost meaning: { Self → Meaning };
 
-    // the bytes that the store is kept in; there are always as many
+    // the bytes that the store is kept in; there are always as many, which each method says, since it ties before and after
     ghost medium: { Self → List ℕ };
 
     // Adds a pair. A refused put changes no byte.

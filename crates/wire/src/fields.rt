@@ -1,4 +1,4 @@
-// Numbers in a packet: highest byte first.
+// Numbers in a packet: highest byte first. Each field lies at a fixed place, so bytes and place are no cursor.
 ghost use Rattle.std.specs.Prelude.{◌≡◌, ◌+◌, ◌≤◌, length, drop, map, slice_index};
 ghost use Rattle.std.specs.List.{range_with_len};
 ghost use Rattle.wire.specs.Fields.{short_at, field_at, overwrite};

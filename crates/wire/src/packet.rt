@@ -22,8 +22,7 @@ impl TreeId {
         ensures is { result ≡ self.0 }
         ensures long { length self.0 ≡ 6 }
     {
-        let TreeId(bytes) = self;
-        bytes
+        self.0
     }
 }
 
@@ -77,7 +76,8 @@ impl<'a> From<Body<Infallible>> for Body<&'a [u8]> {
     }
 }
 
-// A packet: the header's fields and the body. `addressee` is 0 where the packet is for all.
+// A packet: the header's fields and the body, all public, so it has no model. `addressee` is 0 where the packet is for all, as
+// it stands in the packet: an Option would spell that number twice.
 #[derive(Clone, Copy, PartialEq, Eq, Debug)]
 pub struct Message<P> {
     pub tree: TreeId,

@@ -11,7 +11,7 @@ use crate::packet::Hack;
 use crate::span::Span;
 use answer::Refusal;
 
-// The four bytes at `at` as a number, or 0 past the end.
+// The four bytes at `at` as a number, or 0 past the end: a test, and no `get` with an Option that nobody wants.
 fn word_at(bytes: &[u8], at: usize) -> u32
     requires near { at < 2 ^ 32 }
     requires whole { at < length bytes.now → at + 4 ≤ length bytes.now }
