@@ -30,13 +30,24 @@ fail() {
     exit 1
 }
 
+# What the compiler must say of the marked line of a program.
+reason() {
+    local method
+    case "$1" in
+    rejected/accept_a_bare_report.txt) echo 'expected `Admitted<Sender<Q, StillOpen>, Hack>`, found `Hack`' ;;
+    rejected/accept_past_the_checks.txt) echo 'field `incoming` of struct `Admitted` is private' ;;
+    *)
+        method=$(sed -n 's/.*stream\.\([a-z]*\)(.*\/\/ REFUSED$/\1/p' "$1")
+        echo "the method \`$method\` takes \`self\` as \`.*Sender<Q, StillOpen>\`, and is called on \`Sender<Q, AtEnd>\`"
+        ;;
+    esac
+}
+
 for program in rejected/*.txt; do
     [ "$(grep -c '// REFUSED$' "$program")" -eq 1 ] || fail "$program" "one line has to be marked"
     grep -v '// REFUSED$' "$program" | compiled || fail "$program" "refused without the marked line"
     ! compiled <"$program" || fail "$program" "accepted with the marked line"
-    method=$(sed -n 's/.*stream\.\([a-z]*\)(.*\/\/ REFUSED$/\1/p' "$program")
     line=$(grep -n '// REFUSED$' "$program" | cut -d: -f1)
-    grep -q "main.rt:$line:.*the method \`$method\` takes \`self\` as \`.*Sender<Q, StillOpen>\`, and is called on \`Sender<Q, AtEnd>\`" "$scratch/said" ||
-        fail "$program" "refused, but not since the stream has ended"
+    grep -q "main.rt:$line:.*$(reason "$program")" "$scratch/said" || fail "$program" "refused, but for another reason"
     echo "$program: refused, as it must be"
 done

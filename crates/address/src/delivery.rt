@@ -9,6 +9,7 @@ ghost use Rattle.address.specs.Deliveries.{Acceptance, deliver_answer, deliver_a
 use crate::Address;
 use answer::{Delivered, Outcome, Refusal};
 use std::convert::Infallible;
+use std::marker::PhantomData;
 use wire::{Body, Packet, read};
 
 // The longest reply, a JoinConfirm. Every deliver wants a buffer of this length, whether a reply comes or not.
@@ -21,8 +22,30 @@ pub struct Accepted {
     pub reply: Option<Body<Infallible>>,
 }
 
+// A packet past all the checks of a node of type `N`. Only `deliver` makes one, and hands it to that node: nobody else can
+// bring a packet to `accept`, and no node can pass one on to a node of another type.
+pub struct Admitted<N, I> {
+    writer: u16,
+    incoming: I,
+    node: PhantomData<N>,
+}
+
+impl<N, I> Admitted<N, I> {
+    // Who wrote the packet, and what it is to the node.
+    pub fn open(self) -> (u16, I)
+        ensures { result ≡ (self.writer, self.incoming) }
+    {
+        let Admitted {
+            writer,
+            incoming,
+            node: _,
+        } = self;
+        (writer, incoming)
+    }
+}
+
 // A node on the channel, seen as `Seen`: what it takes, and what it makes of that.
-pub trait Node {
+pub trait Node: Sized {
     // what a packet is to the node
     type Incoming: Copy;
 
@@ -45,10 +68,10 @@ pub trait Node {
         ensures { result ≡ takes (seen self.now) (plain_packet packet.now) };
 
     // What a packet that was let in makes of the node.
-    fn accept(&mut self, clock: u32, writer: u16, incoming: Self::Incoming) -> Accepted
-        ensures after { seen self.new ≡ (accepts clock (seen self.old) writer incoming).node }
-        ensures outcome { result.outcome ≡ (accepts clock (seen self.old) writer incoming).outcome }
-        ensures reply { result.reply ≡ (accepts clock (seen self.old) writer incoming).reply };
+    fn accept(&mut self, clock: u32, packet: Admitted<Self, Self::Incoming>) -> Accepted
+        ensures after { seen self.new ≡ (accepts clock (seen self.old) packet.writer packet.incoming).node }
+        ensures outcome { result.outcome ≡ (accepts clock (seen self.old) packet.writer packet.incoming).outcome }
+        ensures reply { result.reply ≡ (accepts clock (seen self.old) packet.writer packet.incoming).reply };
 }
 
 // What a node makes of bytes from the channel, and the reply that goes to their writer.
@@ -69,7 +92,12 @@ pub fn deliver<N: Node>(
     if reply.len() < REPLY_ROOM {
         return Err(Refusal::ShortOutput);
     }
-    let accepted = node.accept(clock, packet.writer, incoming);
+    let admitted = Admitted {
+        writer: packet.writer,
+        incoming,
+        node: PhantomData,
+    };
+    let accepted = node.accept(clock, admitted);
     Ok(Delivered {
         outcome: accepted.outcome,
         reply: address.write_reply(packet.writer, accepted.reply, reply),

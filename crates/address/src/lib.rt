@@ -12,7 +12,7 @@ use wire::{Body, Packet, TreeId, write};
 
 mod delivery;
 
-pub use delivery::{Accepted, Node, REPLY_ROOM, deliver};
+pub use delivery::{Accepted, Admitted, Node, REPLY_ROOM, deliver};
 
 // The tree and the stream that a node belongs to, and its number.
 #[derive(Clone, Copy)]

@@ -11,7 +11,7 @@ ghost use Rattle.control.specs.Nodes.{new_control, control_busy, ticked, beat_pa
 
 use crate::kind::Rows;
 use crate::taking::{Incoming, classify};
-use address::{Accepted, Address, Node, deliver};
+use address::{Accepted, Address, Admitted, Node, deliver};
 use answer::{Delivered, Outcome, Refusal};
 use member::member::Member;
 use member::types::{Identity, Standing};
@@ -177,7 +177,12 @@ impl Node for Control {
             .then_some(incoming)
     }
 
-    fn accept(&mut self, clock: u32, writer: u16, incoming: Incoming) -> Accepted {
+    fn accept(&mut self, clock: u32, packet: Admitted<Control, Incoming>) -> Accepted
+        ensures after { self.new ≡ (accepts clock self.old packet.writer packet.incoming).node }
+        ensures outcome { result.outcome ≡ (accepts clock self.old packet.writer packet.incoming).outcome }
+        ensures reply { result.reply ≡ (accepts clock self.old packet.writer packet.incoming).reply }
+    {
+        let (writer, incoming) = packet.open();
         match incoming {
             Incoming::Parent(packet) => self.member.take(packet, clock).into(),
             Incoming::Child(packet) => self.hear_child(clock, writer, packet),

@@ -8,7 +8,7 @@ ghost use Rattle.sender.specs.Senders.{sender_seen, report_from, is_fresh, accep
 use crate::phase::Phase;
 use crate::sender::Sender;
 use crate::wanted::Wanted;
-use address::{Accepted, Address, Node, deliver};
+use address::{Accepted, Address, Admitted, Node, deliver};
 use answer::{Delivered, Outcome, Refusal};
 use store::Store;
 use wire::{Body, Hack, Packet};
@@ -78,7 +78,12 @@ impl<Q: Store, P: Phase> Node for Sender<Q, P> {
         }
     }
 
-    fn accept(&mut self, _clock: u32, _writer: u16, hack: Hack) -> Accepted {
+    fn accept(&mut self, _clock: u32, packet: Admitted<Self, Hack>) -> Accepted
+        ensures after { sender_seen Q.meaning P.ended self.new ≡ (accepts_report (sender_seen Q.meaning P.ended self.old) packet.writer packet.incoming).node }
+        ensures outcome { result.outcome ≡ (accepts_report (sender_seen Q.meaning P.ended self.old) packet.writer packet.incoming).outcome }
+        ensures reply { result.reply ≡ (accepts_report (sender_seen Q.meaning P.ended self.old) packet.writer packet.incoming).reply }
+    {
+        let (_writer, hack) = packet.open();
         Accepted {
             outcome: self.take(&hack),
             reply: None,
