@@ -59,7 +59,7 @@ module _ (s : Sender Meaning Bool) (bytes : List ℕ) (p : Message (List ℕ)) (
   hack_body : p.body ≡ body.Hack h
   hack_body = of_body p.body (from_top (eqb p.writer s.top) (hack_in p.body) (sym came.report))
 
-  in_range : hack_in_range h ≡ true
+  pub in_range : hack_in_range h ≡ true
   in_range =
       let t = taken bytes p came.read in
       let all = (and_parts (counts_agree bytes) (packet_in_range (packet_at bytes)) t.good).1 in
@@ -83,9 +83,9 @@ module _ (s : Sender Meaning Bool) (bytes : List ℕ) (p : Message (List ℕ)) (
   fresh_if true e = refl
   fresh_if false e = grind arith
 
-  wants_missing : (o : Outcome) → o ≡ (accepts_report s 0 h).outcome → (after : Sender Meaning Bool) → after ≡ (accepts_report s 0 h).node → WantsTheMissing bytes (Ok (record { outcome = o; reply = 0 })) after.wanted
+  pub wants_missing : (after : Sender Meaning Bool) (o : Outcome) → o ≡ (accepts_report s 0 h).outcome → after ≡ (accepts_report s 0 h).node → WantsTheMissing bytes (Ok (record { outcome = o; reply = 0 })) after.wanted
   unfolding outcome_in
-  wants_missing o told after is q x reads carries done n =
+  wants_missing after o told is q x reads carries done n =
       let same : q ≡ p = let e = sym reads ∙ came.read in cc in
       let hack : x ≡ h = let e = sym carries ∙ ap (λ m. m.body) same ∙ hack_body in cc in
       let took : o ≡ Taken = ap outcome_in done in
@@ -111,7 +111,7 @@ module _ (s : Sender Meaning Bool) (bytes : List ℕ) (p : Message (List ℕ)) (
             (omega (arith, missing_from h n m), omega (arith, missing_through h n m));
       }
 
-  report_keeps : (after : Sender Meaning Bool) → after ≡ (accepts_report s 0 h).node → SenderSound s → SenderSound after
+  pub report_keeps : (after : Sender Meaning Bool) → after ≡ (accepts_report s 0 h).node → SenderSound s → SenderSound after
   report_keeps after is sound = subst SenderSound (sym is) (go (is_fresh s h) (λ f. reported_sound f sound))
     where
       go : (b : Bool) → (b ≡ true → SenderSound (reported s h)) → SenderSound ((either b).node)
@@ -144,4 +144,4 @@ delivered_wants s bytes out (Err e) is q x reads carries done n = absurd (search
 delivered_wants s bytes out (Ok d) is q x reads carries done n =
     let ok = sym is ∙ done in
     let i = let_in s bytes out _ ok in
-    wants_missing s bytes i.packet i.incoming (came_in s bytes out _ ok) Taken i.outcome (sender_after true s bytes) (came_to s bytes out _ ok) q x reads carries refl n
+    wants_missing s bytes i.packet i.incoming (came_in s bytes out _ ok) (sender_after true s bytes) Taken i.outcome (came_to s bytes out _ ok) q x reads carries refl n

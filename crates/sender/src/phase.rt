@@ -14,7 +14,14 @@ pub trait Phase {
 
     // How far the numbers go, and whether that is the end.
     fn announcement(&self, highest: u32) -> Body<Infallible>
-        ensures { result ≡ announcement (ended self.now) highest };
+        ensures { result ≡ announcement (ended self.now) highest }
+    {
+        if self.is_ended() {
+            Body::Eos { highest }
+        } else {
+            Body::NullData { highest }
+        }
+    }
 }
 
 #[derive(Drop)]
@@ -29,10 +36,6 @@ impl Phase for StillOpen {
     fn is_ended(&self) -> bool {
         false
     }
-
-    fn announcement(&self, highest: u32) -> Body<Infallible> {
-        Body::NullData { highest }
-    }
 }
 
 impl Phase for AtEnd {
@@ -40,9 +43,5 @@ impl Phase for AtEnd {
 
     fn is_ended(&self) -> bool {
         true
-    }
-
-    fn announcement(&self, highest: u32) -> Body<Infallible> {
-        Body::Eos { highest }
     }
 }
