@@ -42,10 +42,15 @@ pub(crate) fn ranged_slot(field: u16) -> Result<u16, Refusal>
     ranged(field, field <= 15)
 }
 
+pub(crate) fn payload_in_range(number: u32, payload: &[u8]) -> bool
+    ensures { result ≡ payload_in_range number (length payload.now) }
+{
+    number > 0 && number < u32::MAX && payload.len() > 0 && payload.len() <= 512
+}
+
 // Refuses a payload or its number outside their ranges.
 pub(crate) fn check_payload(number: u32, payload: &[u8]) -> Result<(), Refusal>
     ensures { result ≡ (if payload_in_range number (length payload.now) then Ok tt else Err OutOfRange) }
 {
-    let is_number = number > 0 && number < u32::MAX;
-    ranged((), is_number && payload.len() > 0 && payload.len() <= 512)
+    ranged((), payload_in_range(number, payload))
 }
