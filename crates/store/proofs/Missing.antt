@@ -10,7 +10,7 @@ over_free : (n : ℕ) (ps : List Pair) → Over n ps → holds n ps ≡ false
 over_free n [] o = refl
 over_free n (p ∷ ps) o = let l = o.0 in let ih = over_free n ps o.1 in grind (arith, nat_tests)
 
-lowest_is : (k : ℕ) (ps : List Pair) → Rising ps → Lowest k ps (lowest_missing k ps)
+pub lowest_is : (k : ℕ) (ps : List Pair) → Rising ps → Lowest k ps (lowest_missing k ps)
 lowest_is k [] r = record { from = omega arith; missing = refl; below = λ n a b. absurd (omega arith) }
 lowest_is k (p ∷ ps) r =
     elim (cases_eq k p.number) [
@@ -52,7 +52,7 @@ lowest_is k (p ∷ ps) r =
 pub last_free : (m : Meaning) → Sound m → holds 4294967295 m.pairs ≡ false
 last_free m s = let h = number_held 4294967295 m.pairs s.distinct in elim (holds 4294967295 m.pairs) as (λ b. holds 4294967295 m.pairs ≡ b → holds 4294967295 m.pairs ≡ false) [ true ↦ (λ e. absurd (omega (arith, (h e).1))) | false ↦ (λ e. e) ] refl
 
-lowest_one : (k : ℕ) (ps : List Pair) (m n : ℕ) → Lowest k ps m → Lowest k ps n → m ≡ n
+pub lowest_one : (k : ℕ) (ps : List Pair) (m n : ℕ) → Lowest k ps m → Lowest k ps n → m ≡ n
 lowest_one k ps m n a b =
     elim (cases_lt m n) [
       | inl l ↦ absurd (both_ways (holds m ps) a.missing (b.below m a.from l))

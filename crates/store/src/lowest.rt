@@ -10,11 +10,11 @@ pub fn lowest_missing<S: Store>(store: &mut S, start: u32) -> u32
     ensures value { result ≡ lowest_missing start (S.meaning store.old).pairs }
     ensures same { S.meaning store.new ≡ S.meaning store.old }
 {
-    for low in start..u32::MAX {
-        if !store.has(low) {
-            return low;
-        }
+    // Not by `for`: a number that is known to stay below the last is carried in 64 bits, and a slot store then divides it
+    // in each look.
+    let mut low = start;
+    while store.has(low) {
+        low += 1;
     }
-    // No store holds it.
-    u32::MAX
+    low
 }
