@@ -5,8 +5,8 @@ use Rattle.std.proofs.lemmas.List.{append-nil, append_assoc, length-drop, drop-d
 use Rattle.std.proofs.lemmas.List.Edits.{length-paste}
 use Rattle.std.proofs.lemmas.Bool.{eq-eqb, ne_eqb, lt-ltb, le-ltb, cond-true, cond-false}
 use Rattle.store.specs.Pairs.{pair, holds, payload_of, above, distinct}
-use Rattle.memory.specs.Records.{number_of, length_of, size_of, body_of, record_of, records, span, encoded}
-use Rattle.memory.proofs.RecordsLemmas.{run_step, run_push, same_run, same_record, same_length, paste_front, paste_here, paste_past, paste_drop, span_bound, length_encoded, decoded, paste_same, number_is, payload_is}
+use Rattle.memory.specs.Records.{number_of, length_of, size_of, body_of, record_of, records, span, encoded, Found}
+use Rattle.memory.proofs.RecordsLemmas.{run_step, run_push, same_run, same_record, same_length, paste_front, paste_here, paste_past, paste_drop, span_bound, length_encoded, decoded, paste_same, number_is, payload_is, found_body}
 
 -- a walk that looks for n: `left` records of `rest` are not yet read
 pub record Seeking (bs : List ℕ) (count n : ℕ) (rest : List ℕ) (left : ℕ) : Type 0 where
@@ -28,13 +28,19 @@ module _ {bs : List ℕ} {count n : ℕ} {rest : List ℕ} {left : ℕ} (s : See
         payload = s.payload ∙ ap (payload_of n) st.0 ∙ cond-false (eqb n (record_of rest).number) _ _ no;
       }
 
-  pub seeking_here : number_of rest ≡ n → (holds n (records count bs) ≡ true) × (body_of rest ≡ payload_of n (records count bs))
-  seeking_here e =
+  pub seeking_payload : number_of rest ≡ n → (holds n (records count bs) ≡ true) × (body_of rest ≡ payload_of n (records count bs))
+  seeking_payload e =
       let st = run_step left rest l in
       let is : eqb n (record_of rest).number ≡ true = eq-eqb n (record_of rest).number (sym e ∙ sym (number_is rest)) in (
         s.held ∙ ap (holds n) st.0 ∙ cond-true (eqb n (record_of rest).number) true _ is,
         sym (s.payload ∙ ap (payload_of n) st.0 ∙ cond-true (eqb n (record_of rest).number) _ _ is ∙ payload_is rest),
       )
+
+-- where `rest` is the bytes from `at` on, that is the place of n
+pub seeking_here : {bs : List ℕ} {count n at left : ℕ} → Seeking bs count n (drop at bs) left → 0 < left → number_of (drop at bs) ≡ n → Found bs (records count bs) n at
+seeking_here {bs} {count} {n} {at} s l e =
+    let f = seeking_payload s l e in
+    record { held = f.0; payload = sym (found_body at bs) ∙ f.1; within = omega (arith, seeking_head s l, length-drop at bs) }
 
 pub seeking_all : {bs : List ℕ} {count n : ℕ} {rest : List ℕ} {left : ℕ} → Seeking bs count n rest left → left ≡ 0 → holds n (records count bs) ≡ false
 seeking_all {bs} {count} {n} {rest} s e = s.held ∙ ap (λ k. holds n (records k rest)) e

@@ -1,15 +1,16 @@
 -- Records in memory: what a write at one place leaves of the records elsewhere. Assumes nothing.
 use Rattle.std.specs.Prelude.{◌≡◌, ℕ, zero, suc, ◌+◌, ◌-◌, ◌*◌, ◌/◌, ◌%◌, ◌<◌, ◌≤◌, true, List, [], ◌∷◌, ◌++◌, length, take, drop, slice_index, slice_range, refl}
-use Rattle.std.proofs.Common.{sym, ap, subst, ◌∙◌, arith, add-one}
+use Rattle.std.proofs.Common.{sym, ap, subst, ◌∙◌, inl, inr, arith, add-one}
 use borrow.Rule.Slice.PartMut.{put_mid}
 use Rattle.std.proofs.Math.Seq.{paste}
-use Rattle.std.proofs.lemmas.List.{length-append, get_or-take, drop-take, take-take, take_all, drop-drop, length-drop, length-take, drop_at, take_at, length-take-le, append_assoc, take-append-drop}
+use Rattle.std.proofs.lemmas.List.{length-append, get_or-take, get_or-drop, drop-take, take-take, take_all, drop-drop, length-drop, length-take, drop_at, take_at, length-take-le, append_assoc, take-append-drop}
 use Rattle.std.proofs.lemmas.Slice.{put_mid-paste}
 use Rattle.std.proofs.lemmas.Nat.{shr-shr}
 use Rattle.std.proofs.lemmas.List.Edits.{paste-paste, drop-paste}
+use Rattle.std.proofs.lemmas.Bool.{cases_lt}
 use Rattle.std.proofs.lemmas.Bool.Decides.{nat_tests}
 use Rattle.store.specs.Pairs.{pair, distinct}
-use Rattle.memory.specs.Records.{number_of, length_of, size_of, record_of, records, span, header, encoded}
+use Rattle.memory.specs.Records.{number_of, length_of, size_of, body_of, record_of, records, span, header, encoded, body_at}
 
 -- three writes, one after the other, are one
 pub three_writes : (d : List ℕ) (at : ℕ) (y1 y2 y3 h k p : List ℕ) → y1 ≡ h → y2 ≡ k → y3 ≡ p → length h ≡ 4 → length k ≡ 2 → at ≤ length d → put_mid (at + 6) (at + 6 + length p - (at + 6)) (put_mid (at + 4) (at + 6 - (at + 4)) (put_mid at (at + 4 - at) d y1) y2) y3 ≡ paste d at ((h ++ k) ++ p) (6 + length p)
@@ -52,6 +53,18 @@ rest_is k xs = take_all (length xs - k) (drop k xs) (omega (arith, length-drop k
 same_at : (m : ℕ) (xs ys : List ℕ) → take m xs ≡ take m ys → (i : ℕ) → i < m → slice_index xs i ≡ slice_index ys i
 same_at m xs ys e i l = sym (get_or-take m xs i 0 l) ∙ ap (λ zs. slice_index zs i) e ∙ get_or-take m ys i 0 l
 
+-- a paste changes no byte beside what it writes
+pub paste_beside : (d : List ℕ) (at : ℕ) (s : List ℕ) (n : ℕ) → at ≤ length d → n ≤ length s → (i : ℕ) → (at ≤ i → at + n ≤ i) → slice_index (paste d at s n) i ≡ slice_index d i
+paste_beside d at s n within h i beside =
+    let new = paste d at s n in
+    elim (cases_lt i at) [
+      | inl l ↦ same_at at new d (paste_front d at s n within) i l
+      | inr g ↦
+          let e : drop i new ≡ drop i d = paste_past d at s n within i (beside (omega arith)) h in
+          let z : i + 0 ≡ i = omega arith in
+          subst (λ k. slice_index new k ≡ slice_index d k) z (sym (get_or-drop i new 0 0) ∙ ap (λ xs. slice_index xs 0) e ∙ get_or-drop i d 0 0)
+    ]
+
 pub same_drop : (m k : ℕ) (xs ys : List ℕ) → take m xs ≡ take m ys → k ≤ m → slice_range xs k m ≡ slice_range ys k m
 same_drop m k xs ys e l =
     let z : k + (m - k) ≡ m = omega arith in
@@ -89,6 +102,10 @@ number_is xs = refl
 pub payload_is : (xs : List ℕ) → (record_of xs).payload ≡ take (length_of xs) (drop 6 xs)
 unfolding record_of
 payload_is xs = refl
+
+-- the payload of the record at `at` is that of the record at the front of what lies there
+pub found_body : (at : ℕ) (xs : List ℕ) → body_of (drop at xs) ≡ body_at at xs
+found_body at xs = ap (take (length_of (drop at xs))) (drop-drop 6 at xs)
 
 -- a run of records is the same wherever its bytes are
 pub same_run : (n m : ℕ) (xs ys : List ℕ) → span n xs ≤ m → take m xs ≡ take m ys → (records n xs ≡ records n ys) × (span n xs ≡ span n ys)

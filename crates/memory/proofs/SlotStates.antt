@@ -1,5 +1,5 @@
 -- A slot store once other bytes are in its memory. Assumes nothing.
-use Rattle.std.proofs.Common.{◌≡◌, ℕ, ◌+◌, ◌*◌, ◌/◌, ◌%◌, ◌<◌, Bool, true, false, ◌&&◌, eqb, List, length, vec_items, Vec, sym, ap, ◌∙◌, subst, arith}
+use Rattle.std.proofs.Common.{◌≡◌, ℕ, ◌+◌, ◌*◌, ◌/◌, ◌%◌, ◌<◌, Bool, true, false, ◌&&◌, eqb, List, [], length, vec_items, Vec, sym, ap, ◌∙◌, subst, arith}
 use lib.Seq.{paste}
 use Rattle.std.specs.Vec.{with_items}
 use Rattle.std.proofs.lemmas.List.{with_items_is}
@@ -8,7 +8,7 @@ use Rattle.store.proofs.Keeping.{length_in_order}
 use Rattle.memory.specs.declared.slots.SlotStore.{SlotStore}
 use Rattle.memory.specs.Records.{length_of, encoded}
 use Rattle.memory.specs.Slots.{slot_count, slot, slots, slot_pairs, Short, Homed}
-use Rattle.memory.proofs.SlotWalks.{Kept, Turned, turned_put, turned_forget}
+use Rattle.memory.proofs.SlotWalks.{Kept, Turned, turned_put, turned_forget, turned_empty}
 
 -- v once `new` is in it
 pub record Settled {Z : Type 0} (v : Vec ℕ Z) (new : List ℕ) (used : ℕ) (homed : Bool) (ps : List Pair) : Type 0 where
@@ -49,3 +49,10 @@ freed s n used homed old new is =
 pub all_kept : (s : SlotStore) (used : ℕ) (new : List ℕ) → used ≡ length (slot_pairs new) → length (in_order (slot_pairs new)) ≡ length (in_order (slot_pairs (vec_items s.memory))) → used ≡ length (slot_pairs (vec_items s.memory))
 all_kept s used new counted e =
     let old = vec_items s.memory in omega (arith, length_in_order (slot_pairs new), length_in_order (slot_pairs old))
+
+-- every slot free
+pub emptied : {Z : Type 0} (v : Vec ℕ Z) (old new : List ℕ) → old ≡ vec_items v → length new ≡ length old → Short (slot_count old) new → slots (slot_count old) new ≡ [] → Settled v new 0 true []
+emptied v old new is =
+    subst (λ bs. length new ≡ length bs → Short (slot_count bs) new → slots (slot_count bs) new ≡ [] → Settled v new 0 true [])
+    (sym is)
+    (λ long short none. settled v new 0 true [] (turned_empty (vec_items v) new long short none))

@@ -1,17 +1,17 @@
 -- Slots: what a write to one leaves of the others, and the walks over them. Assumes nothing.
-use Rattle.std.specs.Prelude.{◌≡◌, ℕ, zero, suc, ◌+◌, ◌-◌, ◌*◌, ◌/◌, ◌%◌, ◌<◌, ◌≤◌, Bool, true, false, cond, ◌&&◌, List, [], ◌∷◌, ◌++◌, length, take, drop, replicate, slice_index, ◌==◌, ◌≢◌, nat_eq, refl}
+use Rattle.std.specs.Prelude.{◌≡◌, ℕ, zero, suc, ◌+◌, ◌-◌, ◌*◌, ◌/◌, ◌%◌, ◌<◌, ◌≤◌, Bool, true, false, cond, ◌&&◌, List, [], ◌∷◌, ◌++◌, length, take, drop, ◌==◌, ◌≢◌, nat_eq, refl}
 use Rattle.std.proofs.Common.{sym, ap, subst, ◌∙◌, inl, inr, arith, add-one, below_more}
 use Rattle.std.proofs.Math.Seq.{paste}
-use Rattle.std.proofs.lemmas.List.{append-nil, append_assoc, length-append, length-drop, length-replicate, nil_from_length, get_or-replicate, get_or-drop, get_or_past, drop-drop, drop_at, take_at, take_all, take-take}
+use Rattle.std.proofs.lemmas.List.{append-nil, append_assoc, length-append, length-drop, nil_from_length, drop-drop, drop_at, take_at, take_all, take-take}
 use Rattle.std.proofs.lemmas.List.Edits.{length-paste}
 use Rattle.std.proofs.lemmas.Bool.{both_ways, cases_eq, cases_lt, eq-eqb, eqb-true, ne_eqb, cond-true, cond-false, and_parts}
 use Rattle.std.proofs.lemmas.Bool.Decides.{nat_tests}
 use Rattle.store.specs.Pairs.{pair, Pair, holds, payload_of, add, above, in_order, good, distinct}
-use Rattle.memory.specs.Records.{number_of, length_of, body_of, record_of, encoded}
+use Rattle.memory.specs.Records.{number_of, length_of, body_of, record_of, encoded, Found}
 use Rattle.memory.specs.Slots.{slot_count, slot, one, slots, slot_pairs, Short, home, Homed}
 use Rattle.memory.specs.Lengths.{length_one, length_slots}
 use Rattle.store.proofs.Keeping.{holds_append, payload_append, above_append, above_in_order, length_above, distinct_above, distinct_front, distinct_mid, in_order_mid}
-use Rattle.memory.proofs.RecordsLemmas.{same_length, same_record, same_drop, same_less, paste_front, paste_drop, paste_past, length_encoded, decoded, number_is, payload_is}
+use Rattle.memory.proofs.RecordsLemmas.{same_length, same_record, same_drop, same_less, paste_front, paste_drop, paste_past, length_encoded, decoded, number_is, payload_is, found_body}
 
 pub one_free : (xs : List ℕ) → length_of xs ≡ 0 → one xs ≡ []
 unfolding one
@@ -119,8 +119,8 @@ pub seek_more : (n i : ℕ) (bs : List ℕ) → holds n (slots i bs) ≡ false �
 seek_more n i bs h tail = ap (holds n) (slots_more i bs) ∙ holds_append n (slots i bs) (one (slot i bs)) ∙ cond-false (holds n (slots i bs)) _ _ h ∙ tail
 
 -- a slot that holds n has the payload of n
-pub seek_here : (count n i : ℕ) (bs : List ℕ) → i < count → distinct (slots count bs) ≡ true → holds n (one (slot i bs)) ≡ true → (holds n (slots count bs) ≡ true) × (body_of (slot i bs) ≡ payload_of n (slots count bs))
-seek_here count n i bs l d here =
+pub seek_payload : (count n i : ℕ) (bs : List ℕ) → i < count → distinct (slots count bs) ≡ true → holds n (one (slot i bs)) ≡ true → (holds n (slots count bs) ≡ true) × (body_of (slot i bs) ≡ payload_of n (slots count bs))
+seek_payload count n i bs l d here =
     let xs = slot i bs in
     let f = one_found n xs here in
     let parts = slots_edit count i bs bs l (λ k lk ne. refl) in
@@ -131,6 +131,12 @@ seek_here count n i bs l d here =
       ap (holds n) whole ∙ holds_append n (slots i bs) _ ∙ cond-false (holds n (slots i bs)) _ _ before ∙ cond-true (n == (record_of xs).number) _ _ is,
       sym (ap (payload_of n) whole ∙ payload_append n (slots i bs) (record_of xs ∷ parts.0) before ∙ cond-true (n == (record_of xs).number) _ _ is ∙ payload_is xs),
     )
+
+-- and is the place of n
+pub seek_here : (count n i : ℕ) (bs : List ℕ) → i < count → count * 518 ≤ length bs → Short count bs → distinct (slots count bs) ≡ true → holds n (one (slot i bs)) ≡ true → Found bs (slots count bs) n (i * 518)
+seek_here count n i bs l room short d here =
+    let f = seek_payload count n i bs l d here in
+    record { held = f.0; payload = sym (found_body (i * 518) bs) ∙ f.1; within = omega (arith, short i l) }
 
 -- x is the slot at the front of xs, by its own bytes alone
 pub record Alone (xs x : List ℕ) : Type 0 where
@@ -230,7 +236,7 @@ unfolding one
 above_one_drop n xs l =
     let e = number_is xs in grind (arith, nat_tests)
 
-drop_on : (i : ℕ) (xs ys : List ℕ) → drop (i * 518) xs ≡ drop (i * 518) ys → drop ((i + 1) * 518) xs ≡ drop ((i + 1) * 518) ys
+pub drop_on : (i : ℕ) (xs ys : List ℕ) → drop (i * 518) xs ≡ drop (i * 518) ys → drop ((i + 1) * 518) xs ≡ drop ((i + 1) * 518) ys
 drop_on i xs ys e =
     let z : i * 518 + 518 ≡ (i + 1) * 518 = omega arith in
     subst (λ k. drop k xs ≡ drop k ys) z (sym (drop-drop 518 (i * 518) xs) ∙ ap (drop 518) e ∙ drop-drop 518 (i * 518) ys)
@@ -342,20 +348,6 @@ turned_forget bs new n used homed dist long short e counted homes =
     counted homes
     (ap in_order e ∙ sym (above_in_order n (slot_pairs bs)))
 
--- bytes that are all 0 are free slots
-zero_at : (n i : ℕ) → slice_index (replicate n 0) i ≡ 0
-zero_at n i =
-    elim (cases_lt i n) [
-      | inl l ↦ get_or-replicate n i 0 0 l
-      | inr g ↦ get_or_past (replicate n 0) i 0 (omega (arith, length-replicate {A = ℕ} n 0))
-    ]
-
-length_zeros : (m n : ℕ) → length_of (drop m (replicate n 0)) ≡ 0
-unfolding length_of
-length_zeros m n =
-    let a = get_or-drop m (replicate n 0) 4 0 ∙ zero_at n (m + 4) in
-    let b = get_or-drop m (replicate n 0) 5 0 ∙ zero_at n (m + 5) in omega arith
-
 -- slots that hold nothing are at home
 home_none : (count n k : ℕ) (bs : List ℕ) → k < n → slots n bs ≡ [] → home count k (one (slot k bs)) ≡ true
 home_none count zero k bs l e = absurd (omega arith)
@@ -372,9 +364,3 @@ turned_empty bs new long short e =
     turned bs new 0 true [] long short (ap distinct e) (ap length (sym e))
     (λ f k lk. home_none (slot_count bs) (slot_count bs) k new lk e)
     (ap in_order e)
-
--- and so with all bytes 0
-pub turned_zeros : (bs new : List ℕ) → new ≡ replicate (length bs) 0 → Turned bs new 0 true []
-turned_zeros bs new zeros =
-    let free : (k : ℕ) → length_of (slot k new) ≡ 0 = λ k. ap (λ xs. length_of (slot k xs)) zeros ∙ length_zeros (k * 518) (length bs) in
-    turned_empty bs new (ap length zeros ∙ length-replicate (length bs) 0) (λ k l. omega (arith, free k)) (none_held (slot_count bs) new (λ k l. free k))

@@ -1,7 +1,7 @@
 -- A record in memory: the number (4 bytes, highest first), the length (2 bytes), the payload.
 -- And a run of records that lie end to end. Assumes nothing.
-use Rattle.std.specs.Prelude.{ℕ, zero, suc, ◌+◌, ◌*◌, ◌/◌, ◌%◌, List, [], ◌∷◌, ◌++◌, length, take, drop, slice_index}
-use Rattle.store.specs.Pairs.{Pair, pair}
+use Rattle.std.specs.Prelude.{◌≡◌, ℕ, zero, suc, ◌+◌, ◌*◌, ◌/◌, ◌%◌, ◌≤◌, true, List, [], ◌∷◌, ◌++◌, length, take, drop, slice_index}
+use Rattle.store.specs.Pairs.{Pair, pair, holds, payload_of}
 
 -- the fields of the record at the front of xs
 unfoldable pub number_of : List ℕ → ℕ
@@ -34,3 +34,13 @@ header n k = (n / 16777216 % 256) ∷ (n / 65536 % 256) ∷ (n / 256 % 256) ∷ 
 
 abbrev pub encoded : ℕ → List ℕ → List ℕ
 encoded n xs = header n (length xs) ++ xs
+
+-- the payload of the record at `at`
+abbrev pub body_at : ℕ → List ℕ → List ℕ
+body_at at bytes = take (length_of (drop at bytes)) (drop (at + 6) bytes)
+
+-- the record with a number among ps lies at `at`
+pub record Found (bytes : List ℕ) (ps : List Pair) (n at : ℕ) : Type 0 where
+  pub held : holds n ps ≡ true
+  pub payload : body_at at bytes ≡ payload_of n ps
+  pub within : at + size_of (drop at bytes) ≤ length bytes

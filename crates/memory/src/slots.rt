@@ -1,6 +1,6 @@
 // A slot store: slots of one size, each with a record or free. A number's home is the slot that it picks by its
 // remainder; while every record lies at home, one look tells whether a number is held.
-ghost use Rattle.std.specs.Prelude.{◌≡◌, ◌+◌, ◌*◌, ◌/◌, ◌%◌, ◌<◌, ◌≤◌, true, false, [], length, is_some, IfSome, nat_lt, refl};
+ghost use Rattle.std.specs.Prelude.{◌≡◌, ℕ, ◌+◌, ◌*◌, ◌/◌, ◌%◌, ◌<◌, ◌≤◌, true, false, [], length, drop, slice_index, is_some, IfSome, nat_lt, refl};
 ghost use Rattle.store.specs.Pairs.{pair, holds, payload_of, add, above, in_order, good, distinct};
 ghost use Rattle.memory.specs.Records.{length_of};
 ghost use Rattle.memory.specs.Slots.{slot_count, slot, one, slots, slot_pairs, Short, Homed};
@@ -23,6 +23,18 @@ pub struct SlotStore {
     ghost distinct: { distinct (slot_pairs memory.items) ≡ true },
     ghost counted: { used ≡ length (slot_pairs memory.items) },
     ghost homes: { homed ≡ true → Homed (slot_count memory.items) (slot_count memory.items) memory.items },
+}
+
+// Frees each of the slots, and writes no byte past a slot's first six. By number, as `free_through`.
+fn free_all(bytes: &mut [u8])
+    ensures short { Short (slot_count bytes.old) bytes.new }
+    ensures empty { slots (slot_count bytes.old) bytes.new ≡ [] }
+    ensures stay { (i : ℕ) → 6 ≤ i % 518 → slice_index bytes.new i ≡ slice_index bytes.old i }
+    ensures rest { drop (slot_count bytes.old * 518) bytes.new ≡ drop (slot_count bytes.old * 518) bytes.old }
+{
+    for k in 0..bytes.len() / ROOM {
+        write_record(bytes, k * ROOM, 0, &[]);
+    }
 }
 
 // Tells whether a slot holds `number`.
@@ -187,7 +199,7 @@ impl Store for SlotStore {
 
 impl MadeOver for SlotStore {
     fn new(mut memory: Vec<u8>) -> SlotStore {
-        memory.fill(0);
+        free_all(&mut memory);
         SlotStore {
             memory,
             used: 0,

@@ -1,6 +1,6 @@
 use Rattle.std.proofs.Common.{sym, ◌∙◌, arith}
 use Rattle.memory.proofs.RecordsLemmas.{rest_is}
-use Rattle.memory.proofs.JournalWalks.{seeking_head, seeking_more, seeking_here, seeking_all}
+use Rattle.memory.proofs.JournalWalks.{seeking_head, seeking_more, seeking_payload, seeking_all}
 use Rattle.memory.proofs.journal.scan.Goals as goal
 
 pub number_of-requires : goal.number_of-requires
@@ -11,7 +11,7 @@ payload_of-requires c = seeking_head c.loop.invariant (omega (arith, c.loop-test
 
 pub returns-then-number_of-number : goal.returns-then-number_of-number
 returns-then-number_of-number c =
-    let f = seeking_here c.loop.invariant (omega (arith, c.loop-test.true)) (sym c.number_of.ensures ∙ c.if-number_of-number.true) in
+    let f = seeking_payload c.loop.invariant (omega (arith, c.loop-test.true)) (sym c.number_of.ensures ∙ c.if-number_of-number.true) in
     record { test = sym f.0; payload = c.payload_of.ensures ∙ f.1 }
 
 pub length_of-requires : goal.length_of-requires

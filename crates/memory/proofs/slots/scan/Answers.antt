@@ -1,7 +1,8 @@
-use Rattle.std.proofs.Common.{length, sym, refl, ap, ◌∙◌, arith}
+use Rattle.std.proofs.Common.{◌*◌, length, sym, refl, ap, ◌∙◌, arith}
 use Rattle.std.proofs.lemmas.List.{length-append}
 use Rattle.store.specs.Pairs.{holds}
 use Rattle.memory.specs.Slots.{slot_count, slot, slots}
+use Rattle.memory.proofs.RecordsLemmas.{found_body}
 use Rattle.memory.proofs.SlotWalks.{alone, walk_step, walk_end, seek_more, seek_here}
 use Rattle.memory.proofs.slots.scan.Goals as goal
 
@@ -27,8 +28,8 @@ returns-then-slot_holds c =
     let steps = c.in-Some.ensures.steps in
     let w = walk_step c.loop-slot.invariant.0 steps.1.0 steps.1.1 in
     let a = alone (slot i bs) _ w.is (c.requires.short i w.below) in
-    let f = seek_here (slot_count bs) n i bs w.below c.requires.distinct (ap (holds n) (sym a.pairs) ∙ sym c.slot_holds.ensures ∙ c.if-slot_holds.true) in
-    record { test = sym f.0; payload = c.payload_of.ensures ∙ a.body ∙ f.1 }
+    let f = seek_here (slot_count bs) n i bs w.below (omega arith) c.requires.short c.requires.distinct (ap (holds n) (sym a.pairs) ∙ sym c.slot_holds.ensures ∙ c.if-slot_holds.true) in
+    record { test = sym f.held; payload = c.payload_of.ensures ∙ a.body ∙ found_body (i * 518) bs ∙ f.payload }
 
 pub loop-slot-preserved : goal.loop-slot-preserved
 loop-slot-preserved c =

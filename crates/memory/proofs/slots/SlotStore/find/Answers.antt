@@ -2,7 +2,7 @@ use Rattle.std.proofs.Common.{◌≡◌, ◌*◌, ◌/◌, ◌%◌, ◌<◌, tru
 use Rattle.store.specs.Pairs.{holds}
 use Rattle.memory.specs.Records.{body_of}
 use Rattle.memory.specs.Slots.{slot_count, slot, one}
-use Rattle.memory.proofs.RecordsLemmas.{rest_is}
+use Rattle.memory.proofs.RecordsLemmas.{rest_is, found_body}
 use Rattle.memory.proofs.SlotWalks.{seek_here, homed_miss}
 use Rattle.memory.proofs.slots.SlotStore.find.Goals as goal
 
@@ -17,8 +17,8 @@ returns-then-slot_holds c =
     let some : 0 < c.len-count.result / 518 = omega (arith, c.if-count-eq0.false) in
     let low : h < slot_count bs = omega (arith, c.home.ensures, mod-lt n some, count) in
     let here : holds n (one (slot h bs)) ≡ true = ap (λ xs. holds n (one xs)) (sym e) ∙ sym c.slot_holds.ensures ∙ c.if-slot_holds.true in
-    let f = seek_here (slot_count bs) n h bs low s.distinct here in
-    record { test = sym f.0; payload = c.payload_of.ensures ∙ ap body_of e ∙ f.1 }
+    let f = seek_here (slot_count bs) n h bs low (omega arith) s.short s.distinct here in
+    record { test = sym f.held; payload = c.payload_of.ensures ∙ ap body_of e ∙ found_body (h * 518) bs ∙ f.payload }
 
 pub returns-then-self : goal.returns-then-self
 returns-then-self c =
