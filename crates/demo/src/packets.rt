@@ -8,7 +8,7 @@ use store::checks::LONGEST;
 use wire::{Body, Message, TreeId, read, write};
 
 // The longest packet with a payload.
-const LONGEST_PACKET: usize = 534;
+pub(crate) const LONGEST_PACKET: usize = 534;
 
 fn tell_bytes(rt: &HostRuntime, bytes: &[u8]) -> io::Result<()> {
     print!(rt; "  ")?;
@@ -29,15 +29,16 @@ fn length_or_refusal(rt: &HostRuntime, answer: Result<usize, Refusal>) -> io::Re
     }
 }
 
-// Takes a record from the queue, and shows and gives the Data packet that carries it.
-pub(crate) fn carry<Q: Store>(
+// Takes a record from the queue, and shows and gives the Data packet that carries it. It is written into `bytes`, so that no
+// allocation can fail once the stores are made.
+pub(crate) fn carry<'a, Q: Store>(
     rt: &HostRuntime,
     queue: &mut Queue<Q>,
     number: u32,
-) -> anyhow::Result<Vec<u8>> {
-    let mut payload = vec![in rt.alloc(); 0u8; LONGEST]?;
+    bytes: &'a mut [u8; LONGEST_PACKET],
+) -> io::Result<&'a [u8]> {
+    let mut payload = [0u8; LONGEST];
     let len = length_or_refusal(rt, queue.read(number, &mut payload))?;
-    payload.truncate(len);
     let message = Message {
         tree: TreeId([10, 11, 12, 13, 14, 15]),
         stream: 40000,
@@ -45,14 +46,13 @@ pub(crate) fn carry<Q: Store>(
         addressee: 0,
         body: Body::Data {
             number,
-            payload: payload.as_slice(),
+            payload: &payload[..len.min(LONGEST)],
         },
     };
-    let mut packet = vec![in rt.alloc(); 0u8; LONGEST_PACKET]?;
-    let len = length_or_refusal(rt, write(&message, &mut packet))?;
-    packet.truncate(len);
+    let len = length_or_refusal(rt, write(&message, bytes))?;
+    let packet = &bytes[..len.min(LONGEST_PACKET)];
     println!(rt; "  record {number} as a packet of {len} bytes:")?;
-    tell_bytes(rt, &packet)?;
+    tell_bytes(rt, packet)?;
     Ok(packet)
 }
 
@@ -81,37 +81,30 @@ fn receive<A: Store>(
 }
 
 // The packet with one byte changed at a time.
-fn receive_changed<A: Store>(
-    rt: &HostRuntime,
-    packet: &[u8],
-    station: &mut A,
-) -> anyhow::Result<()> {
+fn receive_changed<A: Store>(rt: &HostRuntime, packet: &[u8], station: &mut A) -> io::Result<()> {
+    let len = packet.len().min(LONGEST_PACKET);
+    let mut bytes = [0u8; LONGEST_PACKET];
     for (what, at, byte) in [
         ("another version", 0, 48),
         ("another type", 1, 14),
         ("number 0", 19, 0),
     ] {
-        let mut changed = packet.to_vec(rt.alloc())?;
-        if let Some(place) = changed.get_mut(at) {
+        bytes[..len].copy_from_slice(&packet[..len]);
+        if let Some(place) = bytes.get_mut(at) {
             *place = byte;
         }
-        receive(rt, what, &changed, station)?;
+        receive(rt, what, &bytes[..len], station)?;
     }
     Ok(())
 }
 
 // The packet with one thing wrong at a time, and then whole, twice.
-pub(crate) fn arrive<A: Store>(
-    rt: &HostRuntime,
-    packet: &[u8],
-    station: &mut A,
-) -> anyhow::Result<()> {
+pub(crate) fn arrive<A: Store>(rt: &HostRuntime, packet: &[u8], station: &mut A) -> io::Result<()> {
     let len = packet.len();
     receive(rt, "only 15 bytes arrive", &packet[..len.min(15)], station)?;
     let shorter = &packet[..len.saturating_sub(1)];
     receive(rt, "the last byte is lost", shorter, station)?;
     receive_changed(rt, packet, station)?;
     receive(rt, "as it was written", packet, station)?;
-    receive(rt, "the same again", packet, station)?;
-    Ok(())
+    receive(rt, "the same again", packet, station)
 }

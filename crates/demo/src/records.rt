@@ -1,6 +1,6 @@
 // A queue and a station's archive: records are offered, archived out of order, and released. Each step ends in a match of its
 // own, which prints what that step did.
-use crate::packets::{arrive, carry};
+use crate::packets::{LONGEST_PACKET, arrive, carry};
 use crate::tell_refusal;
 use queue::Queue;
 use std::io;
@@ -80,8 +80,9 @@ pub(crate) fn task<Q: MadeOver + Drop, A: MadeOver + Drop>(rt: &HostRuntime) -> 
     let mut station = A::new(vec![in rt.alloc(); 0u8; 2072]?);
     fill_and_archive(rt, &mut queue, &mut station)?;
     release(rt, &mut queue)?;
-    let packet = carry(rt, &mut queue, 4)?;
-    arrive(rt, &packet, &mut station)?;
+    let mut bytes = [0u8; LONGEST_PACKET];
+    let packet = carry(rt, &mut queue, 4, &mut bytes)?;
+    arrive(rt, packet, &mut station)?;
     let queued = queue.into_store().into_memory();
     let archived = station.into_memory();
     let queue_bytes = queued.len();
