@@ -1,8 +1,8 @@
 // Bytes whose header, type and length are those of a packet, and what they mean.
-ghost use Rattle.std.specs.Prelude.{◌≡◌, ◌≢◌, ◌≤◌, ◌==◌, false, length, MatchResult, Err};
+ghost use Rattle.std.specs.Prelude.{◌≡◌, ◌≢◌, ◌≤◌, ◌==◌, false, length};
 ghost use Rattle.wire.specs.Plain.{plain_body, plain_body_answer, plain_answer};
 ghost use Rattle.wire.specs.Ranges.{body_in_range};
-ghost use Rattle.wire.specs.Decoding.{header_wrong, type_wrong, type_at, expected_length, body_at, ranged_body, ranged_packet, decode};
+ghost use Rattle.wire.specs.Decoding.{header_wrong, type_wrong, type_at, expected_length, body_at, ranged_body, ranged_packet};
 
 use crate::fields::{rest_from, u16_at, u32_at};
 use crate::packet::{Body, Message, Packet, TreeId};
@@ -16,20 +16,20 @@ use answer::Refusal;
 
 #[derive(Clone, Copy)]
 pub(crate) struct Framed<'a> {
-    bytes: &'a [u8],
+    pub(crate) bytes: &'a [u8],
     ghost header: { 16 ≤ length bytes.now },
     ghost typed: { type_wrong bytes.now ≡ false },
     ghost long: { length bytes.now ≡ expected_length bytes.now },
 }
 
-fn header_wrong(bytes: &[u8]) -> bool
+pub(crate) fn header_wrong(bytes: &[u8]) -> bool
     requires { 16 ≤ length bytes.now }
     ensures { result ≡ header_wrong bytes.now }
 {
     bytes[0] != 32 || bytes[14] != 0 || bytes[15] != 0
 }
 
-fn type_wrong(bytes: &[u8]) -> bool
+pub(crate) fn type_wrong(bytes: &[u8]) -> bool
     requires { 16 ≤ length bytes.now }
     ensures { result ≡ type_wrong bytes.now }
 {
@@ -37,7 +37,7 @@ fn type_wrong(bytes: &[u8]) -> bool
 }
 
 // Whether the length is the one that the type and its counts ask for.
-fn length_fits(bytes: &[u8]) -> bool
+pub(crate) fn length_fits(bytes: &[u8]) -> bool
     requires header { 16 ≤ length bytes.now }
     requires typed { type_wrong bytes.now ≡ false }
     ensures { result ≡ (length bytes.now == expected_length bytes.now) }
@@ -53,25 +53,6 @@ fn length_fits(bytes: &[u8]) -> bool
 }
 
 impl<'a> Framed<'a> {
-    // The first refusal that the bytes meet, if not that of a field outside its range.
-    pub(crate) fn of(bytes: &'a [u8]) -> Result<Framed<'a>, Refusal>
-        ensures { MatchResult result (λ f. (f.bytes.now ≡ bytes.now) × (decode bytes.now ≡ ranged_packet bytes.now)) (λ e. decode bytes.now ≡ Err e) }
-    {
-        if bytes.len() < 16 {
-            return Err(Refusal::ShortPacket);
-        }
-        if header_wrong(bytes) {
-            return Err(Refusal::BadHeader);
-        }
-        if type_wrong(bytes) {
-            return Err(Refusal::UnknownType);
-        }
-        if !length_fits(bytes) {
-            return Err(Refusal::LengthMismatch);
-        }
-        Ok(Framed { bytes })
-    }
-
     // Whether the fields of any type but a HACK lie in their ranges: on the numbers, before a body is made. One list of the
     // types, with each body made beside its tests, missed the bar for speed: bodies were then put together from pieces.
     fn simple_in_range(self) -> bool

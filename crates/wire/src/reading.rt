@@ -5,7 +5,7 @@ ghost use Rattle.wire.specs.Plain.{plain_answer, plain_packet};
 ghost use Rattle.wire.specs.Encoding.{encode};
 ghost use Rattle.wire.specs.Decoding.{decode};
 
-use crate::framed::Framed;
+use crate::framed::{Framed, header_wrong, length_fits, type_wrong};
 use crate::packet::Packet;
 use answer::Refusal;
 
@@ -16,5 +16,18 @@ pub fn read(bytes: &[u8]) -> Result<Packet<'_>, Refusal>
     ensures flags { OnOk result (FlagsAsSent bytes.now) }
     ensures writes_back { IfOk result (λ p. SameButIgnored bytes.now (encode (plain_packet p))) }
 {
-    Framed::of(bytes)?.packet()
+    // One test after the other here: from a function of their own the refusals would meet in one place first.
+    if bytes.len() < 16 {
+        return Err(Refusal::ShortPacket);
+    }
+    if header_wrong(bytes) {
+        return Err(Refusal::BadHeader);
+    }
+    if type_wrong(bytes) {
+        return Err(Refusal::UnknownType);
+    }
+    if !length_fits(bytes) {
+        return Err(Refusal::LengthMismatch);
+    }
+    Framed { bytes }.packet()
 }
